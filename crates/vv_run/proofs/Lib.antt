@@ -1,0 +1,5 @@
+pub mod LineLemmas
+pub mod RunLemmas
+pub mod WordLemmas
+pub mod StreamLemmas
+pub mod ServingLemmas

@@ -1,0 +1,14 @@
+use Rattle.std.proofs.Common.{◌≤◌, length}
+use Rattle.vv_run.proofs.StreamLemmas.{Wrote}
+use Rattle.vv_run.proofs.writing.write_all.Given as goal
+
+abbrev pub invariant-loop-rest : goal.invariant-loop-rest
+invariant-loop-rest g l =
+    let sink = g.K.Sink in
+    record {
+      written : Wrote (sink.taken l.fn.sink) (sink.taken l.sink) l.bytes l.rest;
+      later : sink.faults l.fn.sink ≤ sink.faults l.sink;
+    }
+
+abbrev pub decreases-loop-rest : goal.decreases-loop-rest
+decreases-loop-rest g l = length l.rest

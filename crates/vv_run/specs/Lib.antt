@@ -1,0 +1,9 @@
+pub mod Lines
+pub mod Words
+pub mod Replies
+pub mod Writing
+pub mod Reading
+pub mod Status
+pub mod State
+pub mod Steps
+pub mod Runs

@@ -1,0 +1,41 @@
+-- The lines of a script. A line ends by LF, and the last may lack it. Blank lines are no lines.
+use Rattle.std.specs.Prelude.{ℕ, ◌==◌, ◌||◌, List, [], ◌∷◌, Bool, not, filter, if◌then◌else◌}
+use Rattle.std.specs.List.{list_any}
+
+abbrev pub line_feed : ℕ
+line_feed = 10
+
+-- c goes onto the front of the first line
+abbrev pub onto_first : ℕ → List (List ℕ) → List (List ℕ)
+onto_first c [] = (c ∷ []) ∷ []
+onto_first c (line ∷ lines) = (c ∷ line) ∷ lines
+
+-- the pieces that LF cuts a text into, but none after a last LF
+abbrev pub pieces : List ℕ → List (List ℕ)
+pieces [] = []
+pieces (c ∷ bytes) = if c == line_feed then [] ∷ pieces bytes else onto_first c (pieces bytes)
+
+-- c goes onto the front of the first line, if there is one
+abbrev pub onto_ended : ℕ → List (List ℕ) → List (List ℕ)
+onto_ended c [] = []
+onto_ended c (line ∷ lines) = (c ∷ line) ∷ lines
+
+-- those pieces that end by LF
+abbrev pub ended_pieces : List ℕ → List (List ℕ)
+ended_pieces [] = []
+ended_pieces (c ∷ bytes) = if c == line_feed then [] ∷ ended_pieces bytes else onto_ended c (ended_pieces bytes)
+
+-- a blank: space, tab or CR
+abbrev pub is_blank : ℕ → Bool
+is_blank c = (c == 32) || (c == 9) || (c == 13)
+
+abbrev pub has_text : List ℕ → Bool
+has_text line = list_any (λ c. not (is_blank c)) line
+
+-- the lines of a script that was read to its end
+abbrev pub lines_of : List ℕ → List (List ℕ)
+lines_of bytes = filter has_text (pieces bytes)
+
+-- the lines of the front of a script: those that end by LF in it
+abbrev pub ended_lines_of : List ℕ → List (List ℕ)
+ended_lines_of bytes = filter has_text (ended_pieces bytes)

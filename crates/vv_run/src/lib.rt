@@ -1,0 +1,20 @@
+//! The top call: a script's lines are answered one after another.
+#![tactic(auto)]
+
+mod array;
+mod lines;
+mod reply;
+mod runs;
+mod script;
+mod serving;
+mod status;
+mod top_call;
+mod words;
+mod writing;
+
+pub use reply::Reply;
+pub use status::Status;
+pub use top_call::run;
+
+#[cfg(test)]
+mod tests;

@@ -1,0 +1,95 @@
+//! The top call.
+ghost use Rattle.std.specs.Prelude.{◌≡◌, ◌⊎◌, ◌↔◌, ◌<◌, ◌≤◌, map, true, false, Some, drop, ◌+◌, length, take, string_bytes, IfSome, OnOk, OnErr};
+ghost use Rattle.std.specs.Io.KnownBytes.{Consumes, IsAtEnd};
+ghost use Rattle.vv_units.specs.Causes.{Rose};
+ghost use Rattle.vv_run.specs.Lines.{lines_of, ended_lines_of};
+ghost use Rattle.vv_run.specs.Reading.{script_limit};
+ghost use Rattle.vv_run.specs.Runs.{Answered, CutShort, AnsweredFront};
+ghost use Rattle.vv_run.specs.Words.{are_words};
+
+use crate::Status;
+use crate::lines::whole_lines;
+use crate::script::{Ending, SCRIPT_LIMIT, read_script};
+use crate::serving::serve_lines;
+use crate::words::are_words;
+use std::alloc::Global;
+use vv_io::{Sink, Source};
+use vv_units::Failed;
+
+/// Runs the program: with the words `new PATH CHUNKS BLOCKS MAP` it reads a script from the source and writes the
+/// replies to its lines to the sink.
+pub fn run<S: Source, K: Sink>(
+    alloc: Global,
+    words: &[String],
+    source: &mut S,
+    sink: &mut K,
+) -> Status
+    // The words alone are looked at before anything is read.
+    ensures bad_words { (result ≡ Status.BadWords) ↔ (are_words (map (λ word. string_bytes word) words.now) ≡ false) }
+    ensures untouched { result ≡ Status.BadWords → (source.new ≡ source.old) × (sink.new ≡ sink.old) }
+
+    // Nothing is written where there is no memory for the script.
+    ensures unwritten { result ≡ Status.NoMemory → sink.new ≡ sink.old }
+
+    // The script was read to its end, and each of its lines was answered.
+    ensures done { result ≡ Status.Done → IfSome (S.left source.old) (λ told.
+        Answered (lines_of told) (K.taken sink.old) (K.taken sink.new)) }
+    ensures done_within { result ≡ Status.Done → IfSome (S.left source.old) (λ told. length told ≤ script_limit) }
+    ensures done_at_end { result ≡ Status.Done → IsAtEnd (S.left source.new) }
+
+    // The source failed, and the lines that end in the bytes taken were answered.
+    ensures source_fault { result ≡ Status.SourceFault → Rose (S.faults source.old) (S.faults source.new) }
+    ensures before_source_fault { result ≡ Status.SourceFault → IfSome (S.left source.old) (λ told.
+        AnsweredFront told (S.left source.new) (K.taken sink.old) (K.taken sink.new)) }
+
+    // A byte past the limit was taken, and the lines that end before it were answered.
+    ensures too_much { result ≡ Status.TooMuch → IfSome (S.left source.old) (λ told.
+        Answered (ended_lines_of (take script_limit told)) (K.taken sink.old) (K.taken sink.new)) }
+    ensures past_the_limit { result ≡ Status.TooMuch → IfSome (S.left source.old) (λ told.
+        (script_limit < length told) × (S.left source.new ≡ Some (drop (script_limit + 1) told))) }
+
+    // The sink failed, and took a part of the reply to one of the lines.
+    ensures sink_fault { result ≡ Status.SinkFault → Rose (K.faults sink.old) (K.faults sink.new) }
+    ensures before_sink_fault { result ≡ Status.SinkFault → IfSome (S.left source.old) (λ told.
+        CutShort (lines_of told) (K.taken sink.old) (K.taken sink.new)) }
+
+    // With no fault it reads a script within the limit to its end, unless there is no memory.
+    ensures complete { are_words (map (λ word. string_bytes word) words.now) ≡ true → IfSome (S.left source.old) (λ told.
+        length told ≤ script_limit → ¬ (Rose (S.faults source.old) (S.faults source.new)) → ¬ (Rose (K.faults sink.old) (K.faults sink.new))
+        → (result ≡ Status.Done) ⊎ (result ≡ Status.NoMemory)) }
+
+    // Counts of faults don't fall.
+    ensures source_later { S.faults source.old ≤ S.faults source.new }
+    ensures sink_later { K.faults sink.old ≤ K.faults sink.new }
+{
+    if !are_words(words) {
+        return Status::BadWords;
+    }
+    let mut script = Vec::new(alloc);
+    let ending = read_script(source, &mut script);
+    match ending {
+        Ending::End => status_of(serve_lines(alloc, &script, sink), Status::Done),
+        Ending::Fault => status_of(
+            serve_lines(alloc, whole_lines(&script), sink),
+            Status::SourceFault,
+        ),
+        Ending::TooMuch => {
+            let (front, _) = script.split_at(SCRIPT_LIMIT);
+            status_of(
+                serve_lines(alloc, whole_lines(front), sink),
+                Status::TooMuch,
+            )
+        }
+        Ending::NoMemory => Status::NoMemory,
+    }
+}
+
+fn status_of(served: Result<(), Failed>, status: Status) -> Status
+    ensures ok { OnOk served (result ≡ status) }
+    ensures err { OnErr served (result ≡ Status.SinkFault) }
+{
+    match served {
+        Ok(()) => status,
+        Err(Failed) => Status::SinkFault,
+    }
+}

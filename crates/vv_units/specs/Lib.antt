@@ -1,0 +1,5 @@
+pub mod Causes
+pub mod Sizes
+pub mod Identifiers
+pub mod Names
+pub mod Pairs

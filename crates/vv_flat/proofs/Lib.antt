@@ -1,0 +1,14 @@
+pub mod MapLists
+pub mod MapDurable
+pub mod NothingChanges
+pub mod Interrupts
+pub mod Rows
+pub mod Filled
+pub mod Sums
+pub mod Shares
+pub mod Steps
+pub mod Verdicts
+pub mod Entries
+pub mod Distinct
+pub mod Known
+pub mod Pool

@@ -1,0 +1,17 @@
+pub mod Lists
+pub mod State
+pub mod Chunks
+pub mod Space
+pub mod Bits
+pub mod Bindings
+pub mod Volatile
+pub mod Tasks
+pub mod Restart
+pub mod Profiles
+pub mod Refusals
+pub mod Changes
+pub mod Sharing
+pub mod Rules
+pub mod Form
+pub mod Replay
+pub mod Flat

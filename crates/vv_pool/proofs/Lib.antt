@@ -1,0 +1,3 @@
+mod BitLemmas
+pub mod PoolLemmas
+pub mod PoolLaws

@@ -1,0 +1,6 @@
+pub mod Bytes
+pub mod Moments
+mod Calls
+mod Keeping
+mod Pending
+mod Records

@@ -1,0 +1,4 @@
+pub mod StoreLemmas
+pub mod MapLemmas
+pub mod GrowLemmas
+pub mod StoreLaws

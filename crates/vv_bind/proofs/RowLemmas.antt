@@ -1,0 +1,471 @@
+-- Lists edited at the first item that passes a test, and lists that rise.
+use Rattle.std.proofs.Common.{◌≡◌, ℕ, zero, suc, ◌+◌, ◌<◌, ◌≤◌, ◌&&◌, ◌||◌, not, refl, ap, sym, ◌∙◌, Bool, true, false, cond, List, [], ◌∷◌, length, set, get_or, arith}
+use Rattle.std.proofs.Common.{zero-add, ◌-◌, ◌⊎◌, ⊎_elim, inl, inr}
+use Rattle.std.proofs.lemmas.Bool.{true≢false, cases_lt}
+use Rattle.std.proofs.lemmas.Option.{slice_get-get_or}
+use Rattle.std.specs.Prelude.{is_some, is_none, count_by, filter, slice_get, Option, Some, None, unwrap_or, nat_lt, ◌==◌}
+use Rattle.std.proofs.lemmas.List.Folds.{find_at}
+use Rattle.std.proofs.lemmas.List.Sums.{sum_by-cons, prefix_len-le-length, prefix_len_stops}
+use Rattle.std.specs.List.{find, list_all, list_any, position, position_or_len, insert, remove}
+use Rattle.std.proofs.lemmas.Bool.Decides.{nat_tests}
+use Rattle.vv_flat.specs.Lists.{if_found, numbers_from, first_changed, put_before, first_removed}
+use Rattle.vv_flat.specs.State.{Context, Address, Binding}
+use Rattle.vv_flat.specs.Bindings.{is_of_host, without_host, host_bindings, is_address, is_below, is_binding_of, binding_at, endpoints_of, free_secondary, count_left, without_binding}
+use Rattle.vv_flat.proofs.Shares.{and_left, and_right, and_both}
+use Rattle.vv_units.specs.declared.numbers.EndpointId.{EndpointId}
+use Rattle.vv_bind.specs.Table.{numbers, address, with_one_more, all_rise, all_rise_from, context_below, binding_below}
+
+lt_or_eq : (k n : ℕ) → k < n + 1 → (k < n) ⊎ (k ≡ n)
+lt_or_eq k n h = ⊎_elim (λ l. inl l) (λ g. inr (omega arith)) (cases_lt k n)
+
+module _ {A : Type 0} (p : A → Bool) where
+  changed_head : (f : A → A) (x d : A) (xs : List A) (b : Bool) (n : ℕ) → first_changed p f xs ≡ set xs n (f (get_or xs n d))
+      → cond b (f x ∷ xs) (x ∷ first_changed p f xs) ≡ set (x ∷ xs) (cond (not b) (1 + n) 0) (f (get_or (x ∷ xs) (cond (not b) (1 + n) 0) d))
+  changed_head f x d xs true n h = refl
+  changed_head f x d xs false n h = let e : 1 + n ≡ suc n = omega arith in rw e (ap (λ ys. x ∷ ys) h)
+
+  -- a change at the first place
+  pub changed_at : (f : A → A) (xs : List A) (d : A) → first_changed p f xs ≡ set xs (position_or_len p xs) (f (get_or xs (position_or_len p xs) d))
+  changed_at f [] d = refl
+  changed_at f (x ∷ xs) d = changed_head f x d xs (p x) (position_or_len p xs) (changed_at f xs d)
+
+  put_head : (x y : A) (ys : List A) (b : Bool) (n : ℕ) → put_before p x ys ≡ insert ys n x
+      → cond b (x ∷ y ∷ ys) (y ∷ put_before p x ys) ≡ insert (y ∷ ys) (cond (not b) (1 + n) 0) x
+  put_head x y ys true n h = refl
+  put_head x y ys false n h = let e : 1 + n ≡ suc n = omega arith in rw e (ap (λ zs. y ∷ zs) h)
+
+  pub put_at_first : (x : A) (xs : List A) → put_before p x xs ≡ insert xs (position_or_len p xs) x
+  put_at_first x [] = refl
+  put_at_first x (y ∷ ys) = put_head x y ys (p y) (position_or_len p ys) (put_at_first x ys)
+
+  removed_head : (x : A) (xs : List A) (b : Bool) (n : ℕ) → first_removed p xs ≡ remove xs n
+      → cond b xs (x ∷ first_removed p xs) ≡ remove (x ∷ xs) (cond (not b) (1 + n) 0)
+  removed_head x xs true n h = refl
+  removed_head x xs false n h = let e : 1 + n ≡ suc n = omega arith in rw e (ap (λ ys. x ∷ ys) h)
+
+  pub removed_at : (xs : List A) → first_removed p xs ≡ remove xs (position_or_len p xs)
+  removed_at [] = refl
+  removed_at (x ∷ xs) = removed_head x xs (p x) (position_or_len p xs) (removed_at xs)
+
+  length_put : (x y : A) (ys : List A) (b : Bool) → length (put_before p x ys) ≡ length ys + 1
+      → length (cond b (x ∷ y ∷ ys) (y ∷ put_before p x ys)) ≡ length (y ∷ ys) + 1
+  length_put x y ys true h = omega arith
+  length_put x y ys false h = omega arith
+
+  pub length-put_before : (x : A) (xs : List A) → length (put_before p x xs) ≡ length xs + 1
+  length-put_before x [] = refl
+  length-put_before x (y ∷ ys) = length_put x y ys (p y) (length-put_before x ys)
+
+  position_case : (n m : ℕ) → n ≤ m → unwrap_or (cond (nat_lt n m) (Some n) None) m ≡ n
+  position_case n m h = grind (arith, nat_tests)
+
+  some_case : (n m i : ℕ) → cond (nat_lt n m) (Some n) None ≡ Some i → (n ≡ i) × (n < m)
+  some_case n m i h = grind (arith, nat_tests)
+
+  none_case : (n m : ℕ) → cond (nat_lt n m) (Some n) None ≡ None → m ≤ n
+  none_case n m h = grind (arith, nat_tests)
+
+  pub place-le-length : (xs : List A) → position_or_len p xs ≤ length xs
+  place-le-length xs = prefix_len-le-length (λ x. not (p x)) xs
+
+  -- the first place, or the length
+  pub position_or : (xs : List A) → unwrap_or (position p xs) (length xs) ≡ position_or_len p xs
+  position_or xs = position_case (position_or_len p xs) (length xs) (prefix_len-le-length (λ x. not (p x)) xs)
+
+  pub position_some : (xs : List A) (i : ℕ) → position p xs ≡ Some i → (position_or_len p xs ≡ i) × (position_or_len p xs < length xs)
+  position_some xs i h = some_case (position_or_len p xs) (length xs) i h
+
+  pub position_none : (xs : List A) → position p xs ≡ None → length xs ≤ position_or_len p xs
+  position_none xs h = none_case (position_or_len p xs) (length xs) h
+
+  slice_get_past : (xs : List A) (i : ℕ) → length xs ≤ i → slice_get xs i ≡ None
+  slice_get_past [] i h = refl
+  slice_get_past (x ∷ xs) zero h = absurd (omega arith)
+  slice_get_past (x ∷ xs) (suc i) h = slice_get_past xs i (omega arith)
+
+  pub found_at : (xs : List A) (i : ℕ) (d : A) → position p xs ≡ Some i → find p xs ≡ Some (get_or xs i d)
+  found_at xs i d h =
+      let f = position_some xs i h in
+      let e : find p xs ≡ slice_get xs i = find_at p xs ∙ ap (λ n. slice_get xs n) f.0 in
+      let b : i < length xs = omega arith in
+      e ∙ slice_get-get_or xs i d b
+
+  -- the item that is found
+  pub found_is : (xs : List A) (i : ℕ) (x : A) → position p xs ≡ Some i → x ≡ get_or xs i x → find p xs ≡ Some x
+  found_is xs i x h e = found_at xs i x h ∙ ap (λ y. Some y) (sym e)
+
+  some_same : (x y : A) → Some x ≡ Some y → x ≡ y
+  some_same x y h = cc
+
+  pub found_same : (xs : List A) (i : ℕ) (x y : A) → position p xs ≡ Some i → x ≡ get_or xs i x → y ≡ get_or xs i y → x ≡ y
+  found_same xs i x y h e f = some_same x y (sym (found_is xs i x h e) ∙ found_is xs i y h f)
+
+  pub not_found : (xs : List A) → position p xs ≡ None → find p xs ≡ None
+  not_found xs h = find_at p xs ∙ slice_get_past xs (position_or_len p xs) (position_none xs h)
+
+  passes_true : (b : Bool) → not b ≡ false → b ≡ true
+  passes_true true h = refl
+  passes_true false h = absurd (cc)
+
+  pub found_passes : (xs : List A) (i : ℕ) (x : A) → position p xs ≡ Some i → x ≡ get_or xs i x → p x ≡ true
+  found_passes xs i x h e =
+      let f = position_some xs i h in
+      let s : not (p (get_or xs (position_or_len p xs) x)) ≡ false = prefix_len_stops (λ y. not (p y)) xs x f.1 in
+      let t : not (p x) ≡ false = ap (λ y. not (p y)) e ∙ ap (λ n. not (p (get_or xs n x))) (sym f.0) ∙ s in
+      passes_true (p x) t
+
+  pub changed_step : (f : A → A) (xs : List A) (i : ℕ) (x y : A) → position p xs ≡ Some i → x ≡ get_or xs i x → y ≡ f x
+      → set xs i y ≡ first_changed p f xs
+  changed_step f xs i x y h e g =
+      let place = position_some xs i h in
+      let at : f (get_or xs (position_or_len p xs) x) ≡ f x = ap (λ n. f (get_or xs n x)) place.0 ∙ ap f (sym e) in
+      sym (changed_at f xs x ∙ ap (λ n. set xs n (f (get_or xs (position_or_len p xs) x))) place.0 ∙ ap (λ z. set xs i z) (at ∙ sym g))
+
+  pub removed_step : (xs : List A) (i : ℕ) → position p xs ≡ Some i → remove xs i ≡ first_removed p xs
+  removed_step xs i h = sym (removed_at xs ∙ ap (λ n. remove xs n) ((position_some xs i h).0))
+
+  -- what stays does not change, and the first one counts one
+  removed_rest : (x : A) (xs : List A) (b : Bool) → p x ≡ b → filter (λ y. not (p y)) (first_removed p xs) ≡ filter (λ y. not (p y)) xs
+      → filter (λ y. not (p y)) (cond b xs (x ∷ first_removed p xs)) ≡ cond (not b) (x ∷ filter (λ y. not (p y)) xs) (filter (λ y. not (p y)) xs)
+  removed_rest x xs true is h = refl
+  removed_rest x xs false is h = rw is (ap (λ ys. x ∷ ys) h)
+
+  pub filter-removed : (xs : List A) → filter (λ y. not (p y)) (first_removed p xs) ≡ filter (λ y. not (p y)) xs
+  filter-removed [] = refl
+  filter-removed (x ∷ xs) = removed_rest x xs (p x) refl (filter-removed xs)
+
+  count_cons : (x : A) (xs : List A) → count_by p (x ∷ xs) ≡ cond (p x) 1 0 + count_by p xs
+  count_cons x xs = sum_by-cons (λ y. cond (p y) 1 0) x xs
+
+  count_rest : (x : A) (xs : List A) (b : Bool) → p x ≡ b → is_some (cond b (Some x) (find p xs)) ≡ true
+      → (is_some (find p xs) ≡ true → count_by p (first_removed p xs) + 1 ≡ count_by p xs)
+      → count_by p (cond b xs (x ∷ first_removed p xs)) + 1 ≡ cond b 1 0 + count_by p xs
+  count_rest x xs true is h k = omega arith
+  count_rest x xs false is h k =
+      let e : count_by p (first_removed p xs) + 1 ≡ count_by p xs = k h in
+      let f : count_by p (x ∷ first_removed p xs) ≡ count_by p (first_removed p xs) = count_cons x (first_removed p xs) ∙ ap (λ b. cond b 1 0 + count_by p (first_removed p xs)) is ∙ zero-add (count_by p (first_removed p xs)) in
+      omega arith
+
+  pub count-removed : (xs : List A) → is_some (find p xs) ≡ true → count_by p (first_removed p xs) + 1 ≡ count_by p xs
+  count-removed [] h = absurd (cc)
+  count-removed (x ∷ xs) h = count_rest x xs (p x) refl h (count-removed xs) ∙ sym (count_cons x xs)
+
+  length_rest : (x : A) (xs : List A) (b : Bool) → is_some (cond b (Some x) (find p xs)) ≡ true
+      → (is_some (find p xs) ≡ true → length (first_removed p xs) + 1 ≡ length xs)
+      → length (cond b xs (x ∷ first_removed p xs)) + 1 ≡ length (x ∷ xs)
+  length_rest x xs true h k = omega arith
+  length_rest x xs false h k = let e : length (first_removed p xs) + 1 ≡ length xs = k h in omega arith
+
+  pub length-removed : (xs : List A) → is_some (find p xs) ≡ true → length (first_removed p xs) + 1 ≡ length xs
+  length-removed [] h = absurd (cc)
+  length-removed (x ∷ xs) h = length_rest x xs (p x) h (length-removed xs)
+
+  none_stays : (x : A) (xs : List A) (b : Bool) → cond b (Some x) (find p xs) ≡ None → (find p xs ≡ None → filter (λ y. not (p y)) xs ≡ xs)
+      → cond (not b) (x ∷ filter (λ y. not (p y)) xs) (filter (λ y. not (p y)) xs) ≡ x ∷ xs
+  none_stays x xs true h k = absurd (cc)
+  none_stays x xs false h k = ap (λ ys. x ∷ ys) (k h)
+
+  pub filter-none : (xs : List A) → find p xs ≡ None → filter (λ y. not (p y)) xs ≡ xs
+  filter-none [] h = refl
+  filter-none (x ∷ xs) h = none_stays x xs (p x) h (filter-none xs)
+
+  none_counts : (x : A) (xs : List A) (b : Bool) → cond b (Some x) (find p xs) ≡ None → (find p xs ≡ None → count_by p xs ≡ 0)
+      → cond b 1 0 + count_by p xs ≡ 0
+  none_counts x xs true h k = absurd (cc)
+  none_counts x xs false h k = let e : count_by p xs ≡ 0 = k h in omega arith
+
+  pub count-none : (xs : List A) → find p xs ≡ None → count_by p xs ≡ 0
+  count-none [] h = refl
+  count-none (x ∷ xs) h = count_cons x xs ∙ none_counts x xs (p x) h (count-none xs)
+
+-- an item is still found where one that fails the test is taken out
+module _ {A : Type 0} (p q : A → Bool) (apart : (x : A) → p x ≡ true → q x ≡ true → ⊥) where
+  still_found : (x : A) (xs : List A) (b c : Bool) → p x ≡ b → q x ≡ c → is_some (cond c (Some x) (find q xs)) ≡ true
+      → (is_some (find q xs) ≡ true → is_some (find q (first_removed p xs)) ≡ true)
+      → is_some (find q (cond b xs (x ∷ first_removed p xs))) ≡ true
+  still_found x xs true true e f h k = absurd (apart x e f)
+  still_found x xs true false e f h k = h
+  still_found x xs false true e f h k = rw f refl
+  still_found x xs false false e f h k = rw f (k h)
+
+  pub found-removed : (xs : List A) → is_some (find q xs) ≡ true → is_some (find q (first_removed p xs)) ≡ true
+  found-removed [] h = h
+  found-removed (x ∷ xs) h = still_found x xs (p x) (q x) refl refl h (found-removed xs)
+
+-- ---- secondary identifiers
+abbrev is_at : ℕ → ℕ → ℕ → Binding → Bool
+is_at h e s b = is_address b.address (address h e s)
+
+numbers_apart : (a b c d e f g : ℕ) → f < g → ((a == d) && (b == e) && (c == f)) ≡ true → ((a == d) && (b == e) && (c == g)) ≡ true → ⊥
+numbers_apart a b c d e f g l p q = grind (arith, nat_tests)
+
+-- so many secondary identifiers in a row are bound by no fewer bindings
+pub pigeons : (h e n a : ℕ) (bs : List Binding) → ((k : ℕ) → a ≤ k → k < a + n → is_some (find (is_at h e k) bs) ≡ true) → n ≤ length bs
+pigeons h e zero a bs each = omega arith
+pigeons h e (suc n) a bs each =
+    let first = each a (omega arith) (omega arith) in
+    let shorter = length-removed (is_at h e a) bs first in
+    let rest : n ≤ length (first_removed (is_at h e a) bs) =
+    pigeons h e n (a + 1) (first_removed (is_at h e a) bs)
+    (λ k low high. found-removed (is_at h e a) (is_at h e k)
+    (λ b p q. numbers_apart b.address.host b.address.endpoint b.address.secondary h e a k (omega arith) p q) bs
+    (each k (omega arith) (omega arith)))
+    in
+    omega arith
+
+-- each secondary identifier from 1 on and below `below` is bound
+pub record AllBound (bindings : List Binding) (host endpoint below : ℕ) : Type 0 where
+  pub from_one : 1 ≤ below
+  pub each : (k : ℕ) → 1 ≤ k → k < below → is_some (binding_at bindings (address host endpoint k)) ≡ true
+
+pub bound_none : (bs : List Binding) (h e : ℕ) → AllBound bs h e 1
+bound_none bs h e = record { from_one = omega arith; each = λ k low high. absurd (omega arith) }
+
+pub bound_within : (bs : List Binding) (h e n : ℕ) → AllBound bs h e n → n ≤ length bs + 1
+bound_within bs h e n all =
+    let few : n - 1 ≤ length bs = pigeons h e (n - 1) 1 bs (λ k low high. all.each k low (omega arith)) in
+    omega arith
+
+pub is_some_at : {A : Type 0} (p : A → Bool) (xs : List A) (r : Option ℕ) → r ≡ position p xs → is_some r ≡ true → is_some (find p xs) ≡ true
+is_some_at p xs None e h = absurd (cc)
+is_some_at p xs (Some i) e h =
+    elim xs as (λ ys. position p ys ≡ Some i → is_some (find p ys) ≡ true) [ [] ↦ λ f. absurd (cc) | y ∷ ys ↦ λ f. rw (found_at p (y ∷ ys) i y f) refl ] (sym e)
+
+none_at : {A : Type 0} (p : A → Bool) (xs : List A) (r : Option ℕ) → r ≡ position p xs → is_some r ≡ false → find p xs ≡ None
+none_at p xs None e h = not_found p xs (sym e)
+none_at p xs (Some i) e h = absurd (cc)
+
+pub bound_more : (bs : List Binding) (h e n : ℕ) (r : Option ℕ) → AllBound bs h e n → r ≡ position (is_at h e n) bs → is_some r ≡ true → AllBound bs h e (n + 1)
+bound_more bs h e n r all place some =
+    let here = is_some_at (is_at h e n) bs r place some in
+    record { from_one = omega arith; each = λ k low high. at_most k low high (all.each k low) here }
+  where
+    at_most : (k : ℕ) → 1 ≤ k → k < n + 1 → (k < n → is_some (find (is_at h e k) bs) ≡ true) → is_some (find (is_at h e n) bs) ≡ true → is_some (find (is_at h e k) bs) ≡ true
+    at_most k low high below here = ⊎_elim below (λ same. rw same here) (lt_or_eq k n high)
+
+pub bound_free : (bs : List Binding) (h e n : ℕ) (r : Option ℕ) → r ≡ position (is_at h e n) bs → is_some r ≡ false → binding_at bs (address h e n) ≡ None
+bound_free bs h e n r place none = none_at (is_at h e n) bs r place none
+
+-- the first number that passes a test
+first_head : (test : ℕ → Bool) (a n s : ℕ) (b : Bool) → test a ≡ b → a ≤ s → (a < s → test a ≡ false) → test s ≡ true
+    → (a < s → find test (numbers_from (a + 1) n) ≡ Some s) → cond b (Some a) (find test (numbers_from (a + 1) n)) ≡ Some s
+first_head test a n s true is l below here rest =
+    ⊎_elim (λ lt. absurd (true≢false (sym is ∙ below lt))) (λ same. ap (λ k. Some k) same) (lt_or_eq a s (omega arith))
+first_head test a n s false is l below here rest =
+    ⊎_elim rest (λ same. absurd (true≢false (sym here ∙ ap test (sym same) ∙ is))) (lt_or_eq a s (omega arith))
+
+pub first_number : (test : ℕ → Bool) (a n s : ℕ) → a ≤ s → s < a + n → ((k : ℕ) → a ≤ k → k < s → test k ≡ false) → test s ≡ true
+    → find test (numbers_from a n) ≡ Some s
+first_number test a zero s low high below here = absurd (omega arith)
+first_number test a (suc n) s low high below here =
+    first_head test a n s (test a) refl low (λ l. below a (omega arith) l) here
+    (λ l. first_number test (a + 1) n s (omega arith) (omega arith) (λ k m o. below k (omega arith) o) here)
+
+none_from_some : {A : Type 0} (r : Option A) → is_some r ≡ true → is_none r ≡ false
+none_from_some None h = absurd (cc)
+none_from_some (Some x) h = refl
+
+pub least_is : (bs : List Binding) (h e n : ℕ) → AllBound bs h e n → binding_at bs (address h e n) ≡ None → n ≡ free_secondary bs h e
+least_is bs h e n all free =
+    let few = bound_within bs h e n all in
+    let first : find (λ s. is_none (binding_at bs (address h e s))) (numbers_from 1 (length bs + 1)) ≡ Some n =
+    first_number (λ s. is_none (binding_at bs (address h e s))) 1 (length bs + 1) n all.from_one (omega arith)
+    (λ k low high. none_from_some (binding_at bs (address h e k)) (all.each k low high)) (rw free refl)
+    in
+    sym (ap (λ r. unwrap_or r 0) first)
+
+-- ---- the rows
+pub endpoints_some : (contexts : List Context) (host at : ℕ) (context : Context) → position (λ (c : Context). c.host == host) contexts ≡ Some at
+    → context ≡ get_or contexts at context → context.endpoints ≡ endpoints_of contexts host
+endpoints_some contexts host at context place is =
+    sym (ap (λ r. if_found r (λ (c : Context). c.endpoints) (1 ∷ [])) (found_is (λ (c : Context). c.host == host) contexts at context place is))
+
+pub endpoints_none : (contexts : List Context) (host : ℕ) → position (λ (c : Context). c.host == host) contexts ≡ None → 1 ∷ [] ≡ endpoints_of contexts host
+endpoints_none contexts host place =
+    sym (ap (λ r. if_found r (λ (c : Context). c.endpoints) (1 ∷ [])) (not_found (λ (c : Context). c.host == host) contexts place))
+
+pub address_is : (a : Address) (h e s : ℕ) → a.host ≡ h → e ≡ a.endpoint → s ≡ a.secondary → a ≡ address h e s
+address_is a h e s p q r = rw (← p, q, r) refl
+
+pub host_is : (host volume : ℕ) (b : Binding) → is_binding_of host volume b ≡ true → b.address.host ≡ host
+host_is host volume b h = grind (arith, nat_tests)
+
+zero_case : {A : Type 0} (n : ℕ) (x y : A) → n ≡ 0 → cond (n == 0) x y ≡ x
+zero_case n x y h = rw h refl
+
+more_case : {A : Type 0} (n : ℕ) (x y : A) → 0 < n → cond (n == 0) x y ≡ y
+more_case n x y h = grind (arith, nat_tests)
+
+left_is : (bs : List Binding) (a : Address) (i : ℕ) (x : Binding) → position (λ (b : Binding). is_address b.address a) bs ≡ Some i → x ≡ get_or bs i x
+    → count_left bs a ≡ x.count - 1
+left_is bs a i x place is = ap (λ r. if_found r (λ (b : Binding). b.count - 1) 0) (found_is (λ (b : Binding). is_address b.address a) bs i x place is)
+
+pub without_last : (bs : List Binding) (a : Address) (i : ℕ) (x : Binding) → position (λ (b : Binding). is_address b.address a) bs ≡ Some i
+    → x ≡ get_or bs i x → x.count - 1 ≡ 0 → remove bs i ≡ without_binding bs a
+unfolding without_binding
+without_last bs a i x place is none =
+    removed_step (λ (b : Binding). is_address b.address a) bs i place ∙ sym (zero_case (count_left bs a) _ _ (left_is bs a i x place is ∙ none))
+
+pub without_one : (bs : List Binding) (a : Address) (i : ℕ) (x y : Binding) → position (λ (b : Binding). is_address b.address a) bs ≡ Some i
+    → x ≡ get_or bs i x → 0 < x.count - 1 → y ≡ record x { count = x.count - 1 } → set bs i y ≡ without_binding bs a
+unfolding without_binding
+without_one bs a i x y place is more next =
+    let l = left_is bs a i x place is in
+    let m : 0 < count_left bs a = omega arith in
+    changed_step (λ (b : Binding). is_address b.address a) (λ (b : Binding). record b { count = b.count - 1 }) bs i x y place is next
+    ∙ sym (more_case (count_left bs a) _ _ m)
+
+-- a number among the numbers of endpoints
+pub any_number : (n : ℕ) (es : List EndpointId) → list_any (λ (e : EndpointId). e.0 == n) es ≡ list_any (λ e. e == n) (numbers es)
+any_number n [] = refl
+any_number n (e ∷ es) = ap (λ b. (e.0 == n) || b) (any_number n es)
+
+module _ {A : Type 0} (below : A → A → Bool)
+    (through : (x y z : A) → below x y ≡ true → below y z ≡ true → below x z ≡ true) where
+  -- a list that rises from y on rises from what is below y
+  pub rise_over : (x y : A) (ys : List A) → below x y ≡ true → all_rise_from below y ys ≡ true → all_rise_from below x ys ≡ true
+  rise_over x y [] e h = refl
+  rise_over x y (z ∷ zs) e h =
+      and_both (below x z) (all_rise_from below z zs)
+      (through x y z e (and_left (below y z) (all_rise_from below z zs) h)) (and_right (below y z) (all_rise_from below z zs) h)
+
+  removed_rise : (p : A → Bool) (x y : A) (ys : List A) (b : Bool) → below x y ≡ true → all_rise_from below y ys ≡ true
+      → all_rise_from below y (first_removed p ys) ≡ true → all_rise_from below x (cond b ys (y ∷ first_removed p ys)) ≡ true
+  removed_rise p x y ys true e h k = rise_over x y ys e h
+  removed_rise p x y ys false e h k = and_both (below x y) (all_rise_from below y (first_removed p ys)) e k
+
+  rise_from-removed : (p : A → Bool) (x : A) (xs : List A) → all_rise_from below x xs ≡ true → all_rise_from below x (first_removed p xs) ≡ true
+  rise_from-removed p x [] h = refl
+  rise_from-removed p x (y ∷ ys) h =
+      let l = and_left (below x y) (all_rise_from below y ys) h in
+      let r = and_right (below x y) (all_rise_from below y ys) h in
+      removed_rise p x y ys (p y) l r (rise_from-removed p y ys r)
+
+  rise_of : (x : A) (xs : List A) → all_rise_from below x xs ≡ true → all_rise below xs ≡ true
+  rise_of x [] h = refl
+  rise_of x (y ∷ ys) h = and_right (below x y) (all_rise_from below y ys) h
+
+  removed_first : (p : A → Bool) (x : A) (xs : List A) (b : Bool) → all_rise_from below x xs ≡ true
+      → all_rise below (cond b xs (x ∷ first_removed p xs)) ≡ true
+  removed_first p x xs true h = rise_of x xs h
+  removed_first p x xs false h = rise_from-removed p x xs h
+
+  pub rise-removed : (p : A → Bool) (xs : List A) → all_rise below xs ≡ true → all_rise below (first_removed p xs) ≡ true
+  rise-removed p [] h = refl
+  rise-removed p (x ∷ xs) h = removed_first p x xs (p x) h
+
+module _ {A : Type 0} (below : A → A → Bool) where
+  -- a new item at its place in the order
+  put_rise : (x w y : A) (ys : List A) (b : Bool) → below x y ≡ b → below w x ≡ true → below w y ≡ true → (b || below y x) ≡ true
+      → all_rise_from below y ys ≡ true → (below y x ≡ true → all_rise_from below y (put_before (below x) x ys) ≡ true)
+      → all_rise_from below w (cond b (x ∷ y ∷ ys) (y ∷ put_before (below x) x ys)) ≡ true
+  put_rise x w y ys true is e f g h k = and_both (below w x) (below x y && all_rise_from below y ys) e (and_both (below x y) (all_rise_from below y ys) is h)
+  put_rise x w y ys false is e f g h k = and_both (below w y) (all_rise_from below y (put_before (below x) x ys)) f (k g)
+
+  rise_from-put : (x w : A) (xs : List A) → below w x ≡ true → list_all (λ y. below x y || below y x) xs ≡ true
+      → all_rise_from below w xs ≡ true → all_rise_from below w (put_before (below x) x xs) ≡ true
+  rise_from-put x w [] e g h = and_both (below w x) true e refl
+  rise_from-put x w (y ∷ ys) e g h =
+      let r = and_right (below w y) (all_rise_from below y ys) h in
+      put_rise x w y ys (below x y) refl e (and_left (below w y) (all_rise_from below y ys) h)
+      (and_left (below x y || below y x) (list_all (λ y. below x y || below y x) ys) g) r
+      (λ f. rise_from-put x y ys f (and_right (below x y || below y x) (list_all (λ y. below x y || below y x) ys) g) r)
+
+  put_first : (x y : A) (ys : List A) (b : Bool) → below x y ≡ b → (b || below y x) ≡ true
+      → all_rise_from below y ys ≡ true → (below y x ≡ true → all_rise_from below y (put_before (below x) x ys) ≡ true)
+      → all_rise below (cond b (x ∷ y ∷ ys) (y ∷ put_before (below x) x ys)) ≡ true
+  put_first x y ys true is g h k = and_both (below x y) (all_rise_from below y ys) is h
+  put_first x y ys false is g h k = k g
+
+  pub rise-put : (x : A) (xs : List A) → list_all (λ y. below x y || below y x) xs ≡ true
+      → all_rise below xs ≡ true → all_rise below (put_before (below x) x xs) ≡ true
+  rise-put x [] g h = refl
+  rise-put x (y ∷ ys) g h =
+      put_first x y ys (below x y) refl (and_left (below x y || below y x) (list_all (λ y. below x y || below y x) ys) g) h
+      (λ f. rise_from-put x y ys f (and_right (below x y || below y x) (list_all (λ y. below x y || below y x) ys) g) h)
+
+module _ {A : Type 0} (below : A → A → Bool) (g : A → A)
+    (left : (x y : A) → below (g x) y ≡ below x y) (right : (x y : A) → below x (g y) ≡ below x y) where
+  same_from : (x : A) (xs : List A) → all_rise_from below (g x) xs ≡ all_rise_from below x xs
+  same_from x [] = refl
+  same_from x (y ∷ ys) = rw (left x y)
+
+  changed_rise : (p : A → Bool) (w x : A) (xs : List A) (b : Bool) → below w x ≡ true → all_rise_from below x xs ≡ true
+      → all_rise_from below x (first_changed p g xs) ≡ true → all_rise_from below w (cond b (g x ∷ xs) (x ∷ first_changed p g xs)) ≡ true
+  changed_rise p w x xs true e h k = and_both (below w (g x)) (all_rise_from below (g x) xs) (right w x ∙ e) (same_from x xs ∙ h)
+  changed_rise p w x xs false e h k = and_both (below w x) (all_rise_from below x (first_changed p g xs)) e k
+
+  rise_from-changed : (p : A → Bool) (w : A) (xs : List A) → all_rise_from below w xs ≡ true → all_rise_from below w (first_changed p g xs) ≡ true
+  rise_from-changed p w [] h = refl
+  rise_from-changed p w (x ∷ xs) h =
+      let r = and_right (below w x) (all_rise_from below x xs) h in
+      changed_rise p w x xs (p x) (and_left (below w x) (all_rise_from below x xs) h) r (rise_from-changed p x xs r)
+
+  changed_first : (p : A → Bool) (x : A) (xs : List A) (b : Bool) → all_rise_from below x xs ≡ true
+      → all_rise below (cond b (g x ∷ xs) (x ∷ first_changed p g xs)) ≡ true
+  changed_first p x xs true h = same_from x xs ∙ h
+  changed_first p x xs false h = rise_from-changed p x xs h
+
+  pub rise-changed : (p : A → Bool) (xs : List A) → all_rise below xs ≡ true → all_rise below (first_changed p g xs) ≡ true
+  rise-changed p [] h = refl
+  rise-changed p (x ∷ xs) h = changed_first p x xs (p x) h
+
+-- ---- the orders
+pub context_through : (x y z : Context) → context_below x y ≡ true → context_below y z ≡ true → context_below x z ≡ true
+context_through x y z e f = grind (arith, nat_tests)
+
+address_through : (a b c d e f g h i : ℕ)
+    → (nat_lt a d || ((a == d) && (nat_lt b e || ((b == e) && nat_lt c f)))) ≡ true
+    → (nat_lt d g || ((d == g) && (nat_lt e h || ((e == h) && nat_lt f i)))) ≡ true
+    → (nat_lt a g || ((a == g) && (nat_lt b h || ((b == h) && nat_lt c i)))) ≡ true
+address_through a b c d e f g h i p q = grind (arith, nat_tests)
+
+pub binding_through : (x y z : Binding) → binding_below x y ≡ true → binding_below y z ≡ true → binding_below x z ≡ true
+binding_through x y z p q =
+    let a = x.address in let b = y.address in let c = z.address in
+    address_through a.host a.endpoint a.secondary b.host b.endpoint b.secondary c.host c.endpoint c.secondary p q
+
+pub address_total : (a b c d e f : ℕ)
+    → ((d == a) && (e == b) && (f == c)) ≡ false
+    → ((nat_lt a d || ((a == d) && (nat_lt b e || ((b == e) && nat_lt c f)))) || (nat_lt d a || ((d == a) && (nat_lt e b || ((e == b) && nat_lt f c))))) ≡ true
+address_total a b c d e f p = grind (arith, nat_tests)
+
+-- an insertion at the place in the order
+pub put_step : (bindings lent : List Binding) (binding : Binding) (h e s at : ℕ) → h ≡ binding.address.host → e ≡ binding.address.endpoint
+    → s ≡ binding.address.secondary → lent ≡ bindings → at ≡ position_or_len (λ (b : Binding). is_below (address h e s) b.address) lent
+    → insert bindings at binding ≡ with_one_more bindings binding
+put_step bindings lent binding h e s at hh he hs hl place =
+    let found = rw (hh, he, hs, hl) at place in
+    rw found (sym (put_at_first (λ (b : Binding). is_below binding.address b.address) binding bindings))
+
+pub put_context_step : (contexts lent : List Context) (context : Context) (h at : ℕ) → h ≡ context.host
+    → lent ≡ contexts → at ≡ position_or_len (λ (c : Context). nat_lt h c.host) lent
+    → insert contexts at context ≡ put_before (context_below context) context contexts
+put_context_step contexts lent context h at hh hl place =
+    let found = rw (hh, hl) at place in
+    rw found (sym (put_at_first (context_below context) context contexts))
+
+pub place_in : {A : Type 0} (p : A → Bool) (xs lent : List A) (r : Option ℕ) → lent ≡ xs → r ≡ position p lent → position p xs ≡ r
+place_in p xs lent r e h = ap (λ ys. position p ys) (sym e) ∙ sym h
+
+pub out_rest : (bs lent : List Binding) (host i : ℕ) → lent ≡ bs → Some i ≡ position (is_of_host host) lent
+    → without_host (remove bs i) host ≡ without_host bs host
+out_rest bs lent host i e h =
+    ap (λ xs. without_host xs host) (removed_step (is_of_host host) bs i (place_in (is_of_host host) bs lent (Some i) e h)) ∙ filter-removed (is_of_host host) bs
+
+pub out_count : (bs lent : List Binding) (host i : ℕ) → lent ≡ bs → Some i ≡ position (is_of_host host) lent
+    → host_bindings (remove bs i) host + 1 ≡ host_bindings bs host
+out_count bs lent host i e h =
+    let place = place_in (is_of_host host) bs lent (Some i) e h in
+    ap (λ xs. host_bindings xs host + 1) (removed_step (is_of_host host) bs i place)
+    ∙ count-removed (is_of_host host) bs (is_some_at (is_of_host host) bs (Some i) (sym place) refl)
+
+pub none_is : (r : Option ℕ) → is_some r ≡ false → r ≡ None
+none_is None h = refl
+none_is (Some x) h = absurd (cc)
+
+pub out_none : (bs lent : List Binding) (host : ℕ) (r : Option ℕ) → lent ≡ bs → r ≡ position (is_of_host host) lent → r ≡ None
+    → (without_host bs host ≡ bs) × (host_bindings bs host ≡ 0)
+out_none bs lent host r e h n =
+    let none = not_found (is_of_host host) bs (place_in (is_of_host host) bs lent r e h ∙ n) in
+    (filter-none (is_of_host host) bs none, count-none (is_of_host host) bs none)

@@ -1,8 +1,8 @@
 //! Metadata pairs, in the order in which their keys came.
-ghost use Rattle.std.specs.Prelude.{◌≡◌, ◌==◌, [], length, slice_get, None, IfOk, OnOk, OnErr, IsOk};
+ghost use Rattle.std.specs.Prelude.{◌≡◌, ◌==◌, ◌≤◌, [], length, slice_get, None, IfOk, OnOk, OnErr, IsOk};
 ghost use Rattle.std.specs.Option.{option_map, option_copied};
 ghost use Rattle.std.specs.Map.Iter.{deref_pair};
-ghost use Rattle.vv_units.specs.Pairs.{after_set, note_of, HaveOwnKeys};
+ghost use Rattle.vv_units.specs.Pairs.{after_set, without_pair, note_of, HaveOwnKeys};
 
 use crate::{Key, NoMemory, Note};
 use indexmap::IndexMap;
@@ -43,7 +43,7 @@ impl PairList {
         ensures removal { value ≡ None → IsOk result }
     {
         let Some(note) = value else {
-            self.pairs.shift_remove(&key);
+            remove_pair(&mut self.pairs, &key);
             return Ok(());
         };
         if self.pairs.len() >= MOST_PAIRS {
@@ -93,6 +93,15 @@ impl PairList {
             Err(_) => Err(NoMemory),
         }
     }
+}
+
+/// Removes a key. Behind it the other pairs close up.
+#[tactic(auto, using(crate::proofs::PairLemmas::pair_removed))]
+fn remove_pair(pairs: &mut IndexMap<Key, Note>, key: &Key)
+    ensures rest { pairs.new.entries ≡ without_pair pairs.old.entries key.now }
+    ensures fewer { length pairs.new.entries ≤ length pairs.old.entries }
+{
+    pairs.shift_remove(key);
 }
 
 /// The most pairs that can be counted.

@@ -7,11 +7,7 @@ use std::alloc::Global;
 use std::test::Fail;
 
 #[test]
-fn sizes_and_identifiers(rt: HostRuntime) -> Result<(), Fail> {
-    let geometry = Geometry::new(8, 64, 1024).ok_or("inside the limits")?;
-    assert_eq!(rt; chunks_of_mb(geometry, 1), Some(256));
-    assert_eq!(rt; chunks_of_mb(geometry, 0), None);
-    assert_eq!(rt; chunks_of_mb(geometry, 4097), None);
+fn sizes_outside_the_limits(rt: HostRuntime) -> Result<(), Fail> {
     for (blocks, chunks, map) in [
         (7, 64, 1024),
         (4096, 64, 1024),
@@ -21,6 +17,20 @@ fn sizes_and_identifiers(rt: HostRuntime) -> Result<(), Fail> {
     ] {
         assert_eq!(rt; Geometry::new(blocks, chunks, map), None);
     }
+    Ok(())
+}
+
+#[test]
+fn chunks_of_sizes(rt: HostRuntime) -> Result<(), Fail> {
+    let geometry = Geometry::new(8, 64, 1024).ok_or("inside the limits")?;
+    for (mb, wanted) in [(1, Some(256)), (0, None), (4097, None)] {
+        assert_eq!(rt; chunks_of_mb(geometry, mb), wanted);
+    }
+    Ok(())
+}
+
+#[test]
+fn touched_at_borders(rt: HostRuntime) -> Result<(), Fail> {
     for (first, blocks, wanted) in [
         (0, 1, (0, 1)),
         (7, 1, (0, 1)),
@@ -30,11 +40,22 @@ fn sizes_and_identifiers(rt: HostRuntime) -> Result<(), Fail> {
     ] {
         assert_eq!(rt; touched(first, blocks, 8), wanted);
     }
+    Ok(())
+}
+
+#[test]
+fn identifier_of_one(rt: HostRuntime) -> Result<(), Fail> {
     let text = id_text(rt.alloc(), 1)?;
     assert_eq!(rt;
         text.as_str(),
         "rfc4122.00000000-0001-8000-8000-000000000001"
     );
+    assert_eq!(rt; Field::SizeInMb.text(), "sizeInMB");
+    Ok(())
+}
+
+#[test]
+fn identifiers_read(rt: HostRuntime) -> Result<(), Fail> {
     for (text, number) in [
         ("rfc4122.00000000-0001-8000-8000-00000000000b", Some(11)),
         (
@@ -49,7 +70,22 @@ fn sizes_and_identifiers(rt: HostRuntime) -> Result<(), Fail> {
     ] {
         assert_eq!(rt; id_read(text), number);
     }
-    assert_eq!(rt; Field::SizeInMb.text(), "sizeInMB");
+    Ok(())
+}
+
+#[test]
+fn forms_of_names(rt: HostRuntime) -> Result<(), Fail> {
+    let alloc = rt.alloc();
+    assert!(rt; Name::read(alloc, b"min-iops")?.is_some());
+    assert!(rt; Name::read(alloc, b"Min")?.is_none());
+    Ok(())
+}
+
+#[test]
+fn forms_of_keys_and_notes(rt: HostRuntime) -> Result<(), Fail> {
+    let alloc = rt.alloc();
+    assert!(rt; Key::read(alloc, b"")?.is_none());
+    assert!(rt; Note::read(alloc, b"")?.is_some());
     Ok(())
 }
 
@@ -59,6 +95,15 @@ fn key(alloc: Global, text: &[u8]) -> Result<Key, Fail> {
 
 fn note(alloc: Global, text: &[u8]) -> Result<Option<Note>, Fail> {
     Ok(Some(Note::read(alloc, text)?.ok_or("a note")?))
+}
+
+// Keys `a`, `b` and `c`, each with the note `1`.
+fn three_pairs(alloc: Global) -> Result<PairList, Fail> {
+    let mut pairs = PairList::new(alloc);
+    for name in [b"a", b"b", b"c"] {
+        pairs.set(key(alloc, name)?, note(alloc, b"1")?)?;
+    }
+    Ok(pairs)
 }
 
 // Whether the pair at a place has this key and this note.
@@ -71,23 +116,23 @@ fn has_pair(pairs: &PairList, i: u32, key: &[u8], note: &[u8]) -> bool {
 #[test]
 fn pairs_keep_their_order(rt: HostRuntime) -> Result<(), Fail> {
     let alloc = rt.alloc();
-    let mut pairs = PairList::new(alloc);
-    for name in [b"a", b"b", b"c"] {
-        pairs.set(key(alloc, name)?, note(alloc, b"1")?)?;
-    }
+    let mut pairs = three_pairs(alloc)?;
     pairs.set(key(alloc, b"a")?, note(alloc, b"2")?)?;
     pairs.set(key(alloc, b"b")?, None)?;
-    let copy = pairs.copy()?;
-    assert_eq!(rt; copy.len(), 2);
+    assert_eq!(rt; pairs.len(), 2);
+    assert!(rt; has_pair(&pairs, 0, b"a", b"2"));
+    assert!(rt; has_pair(&pairs, 1, b"c", b"1"));
+    assert!(rt; pairs.at(2).is_none());
+    Ok(())
+}
+
+#[test]
+fn copies_of_pairs(rt: HostRuntime) -> Result<(), Fail> {
+    let alloc = rt.alloc();
+    let copy = three_pairs(alloc)?.copy()?;
     assert!(rt; !copy.is_empty());
-    assert!(rt; has_pair(&copy, 0, b"a", b"2"));
-    assert!(rt; has_pair(&copy, 1, b"c", b"1"));
-    assert!(rt; copy.at(2).is_none());
-    assert!(rt; copy.get(&key(alloc, b"b")?).is_none());
-    assert!(rt; Name::read(alloc, b"min-iops")?.is_some());
-    assert!(rt; Name::read(alloc, b"Min")?.is_none());
-    assert!(rt; Key::read(alloc, b"")?.is_none());
-    assert!(rt; Note::read(alloc, b"")?.is_some());
+    assert!(rt; has_pair(&copy, 2, b"c", b"1"));
+    assert!(rt; copy.get(&key(alloc, b"d")?).is_none());
     Ok(())
 }
 

@@ -7,7 +7,7 @@ use crate::ended_pages::EndedPages;
 use crate::page::{Blank, PAGE, Page};
 use crate::page_room::{ListMemory, PageRoom};
 use crate::paged_map::PagedMap;
-use std::alloc::{AllocError, Global};
+use std::alloc::Global;
 use std::marker::Model;
 use std::sync::ledger::Ledger;
 use vv_units::{NoMemory, Steps};

@@ -1,5 +1,5 @@
 -- Lists edited at the first item that passes a test, and lists that rise.
-use Rattle.std.proofs.Common.{◌≡◌, ℕ, zero, suc, ◌+◌, ◌<◌, ◌≤◌, ◌&&◌, ◌||◌, not, refl, ap, sym, ◌∙◌, Bool, true, false, cond, List, [], ◌∷◌, length, set, get_or, arith}
+use Rattle.std.proofs.Common.{◌≡◌, ◌≢◌, ℕ, zero, suc, ◌+◌, ◌<◌, ◌≤◌, ◌&&◌, ◌||◌, not, refl, ap, sym, ◌∙◌, Bool, true, false, cond, List, [], ◌∷◌, length, set, get_or, arith}
 use Rattle.std.proofs.Common.{zero-add, ◌-◌, ◌⊎◌, ⊎_elim, inl, inr}
 use Rattle.std.proofs.lemmas.Bool.{true≢false, cases_lt}
 use Rattle.std.proofs.lemmas.Option.{slice_get-get_or}
@@ -299,6 +299,13 @@ more_case n x y h = grind (arith, nat_tests)
 left_is : (bs : List Binding) (a : Address) (i : ℕ) (x : Binding) → position (λ (b : Binding). is_address b.address a) bs ≡ Some i → x ≡ get_or bs i x
     → count_left bs a ≡ x.count - 1
 left_is bs a i x place is = ap (λ r. if_found r (λ (b : Binding). b.count - 1) 0) (found_is (λ (b : Binding). is_address b.address a) bs i x place is)
+
+-- an unbind leaves nothing of a count of 1 alone
+pub last_count : (n : ℕ) (b : Bool) → b ≡ (n == 1) → b ≡ true → n - 1 ≡ 0
+last_count n b is h = let one : (n == 1) ≡ true = sym is ∙ h in grind (arith, nat_tests)
+
+pub not_last : (n : ℕ) (b : Bool) → b ≡ (n == 1) → b ≡ false → n ≢ 1
+not_last n b is h = let one : (n == 1) ≡ false = sym is ∙ h in grind (arith, nat_tests)
 
 pub without_last : (bs : List Binding) (a : Address) (i : ℕ) (x : Binding) → position (λ (b : Binding). is_address b.address a) bs ≡ Some i
     → x ≡ get_or bs i x → x.count - 1 ≡ 0 → remove bs i ≡ without_binding bs a

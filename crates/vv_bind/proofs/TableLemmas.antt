@@ -340,20 +340,18 @@ pub with_new : (cs : List Context) (bs : List Binding) (host volume : ℕ) (a : 
 unfolding with_binding
 with_new cs bs host volume a h e = rw (e, h) refl
 
-first_of : (es : List EndpointId) → (get_or es 0 (record { 0 = 0 })).0 ≡ slice_index (numbers es) 0
+pub first_of : (es : List EndpointId) → (get_or es 0 (record { 0 = 0 })).0 ≡ slice_index (numbers es) 0
 first_of [] = refl
 first_of (e ∷ es) = refl
 
-pub new_is : (cs lc : List Context) (bs lb : List Binding) (host s : ℕ) (es : List EndpointId) → lc ≡ cs → lb ≡ bs → numbers es ≡ endpoints_of lc host
-    → s ≡ free_secondary lb host (get_or es 0 (record { 0 = 0 })).0 → address host (get_or es 0 (record { 0 = 0 })).0 s ≡ new_address cs bs host
-new_is cs lc bs lb host s es hc hb n f =
-    let e : (get_or es 0 (record { 0 = 0 })).0 ≡ slice_index (endpoints_of cs host) 0 =
-    first_of es ∙ ap (λ xs. slice_index xs 0) (n ∙ ap (λ xs. endpoints_of xs host) hc)
-    in
+pub new_is : (cs lc : List Context) (bs lb : List Binding) (host e s : ℕ) → lc ≡ cs → lb ≡ bs → e ≡ slice_index (endpoints_of lc host) 0
+    → s ≡ free_secondary lb host e → address host e s ≡ new_address cs bs host
+new_is cs lc bs lb host e s hc hb n f =
+    let first : e ≡ slice_index (endpoints_of cs host) 0 = n ∙ ap (λ xs. slice_index (endpoints_of xs host) 0) hc in
     let least : s ≡ free_secondary bs host (slice_index (endpoints_of cs host) 0) =
-    f ∙ ap (λ xs. free_secondary xs host (get_or es 0 (record { 0 = 0 })).0) hb ∙ ap (λ k. free_secondary bs host k) e
+    f ∙ ap (λ xs. free_secondary xs host e) hb ∙ ap (λ k. free_secondary bs host k) first
     in
-    ap (λ k. address host k s) e ∙ ap (λ k. address host (slice_index (endpoints_of cs host) 0) k) least
+    ap (λ k. address host k s) first ∙ ap (λ k. address host (slice_index (endpoints_of cs host) 0) k) least
 
 -- ---- whole tables
 abbrev pub state : List Context → List Binding → BindState
@@ -368,7 +366,7 @@ pub same_table : (t : BindState) (next : List Binding) → t.bindings ≡ next �
 same_table t next e = ap (λ xs. state t.contexts xs) e
 
 -- ---- what a bind is refused for
-length_numbers : (es : List EndpointId) → length (numbers es) ≡ length es
+pub length_numbers : (es : List EndpointId) → length (numbers es) ≡ length es
 length_numbers [] = refl
 length_numbers (e ∷ es) = ap (λ n. suc n) (length_numbers es)
 

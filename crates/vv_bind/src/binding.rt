@@ -110,6 +110,13 @@ impl Binding {
         self.host.0 == host.0 && self.volume.0 == volume.0
     }
 
+    /// Whether an unbind leaves nothing of it.
+    pub(crate) fn is_last(&self) -> bool
+        ensures { result ≡ (self.now.count == 1) }
+    {
+        self.count == 1
+    }
+
     pub(crate) fn raise(&mut self)
         requires { self.old.count ≢ 65535 }
         ensures { self.new ≡ record self.old { count = self.old.count + 1 } }

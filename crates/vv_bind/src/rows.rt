@@ -1,5 +1,5 @@
 //! Places in the rows of a table, and edits of the rows.
-ghost use Rattle.std.specs.Prelude.{false, ◌≢◌, ◌≡◌, ◌==◌, ◌+◌, ◌≤◌, ◌<◌, length, nat_lt, vec_len, vec_capacity, ◌-◌, Some, None, IfSome, option_map, option_copied};
+ghost use Rattle.std.specs.Prelude.{false, slice_index, ◌≢◌, ◌≡◌, ◌==◌, ◌+◌, ◌≤◌, ◌<◌, length, nat_lt, vec_len, vec_capacity, ◌-◌, Some, None, IfSome, option_map, option_copied};
 ghost use Rattle.std.specs.List.{position, position_or_len, list_any, remove};
 ghost use Rattle.vv_flat.specs.Bindings.{is_address, is_below, is_binding_of, is_of_host, keeps_bindings, free_secondary, endpoints_of, binding_of, binding_at, without_binding, without_host, host_bindings, is_bound, was_set, with_context};
 ghost use Rattle.vv_flat.specs.Lists.{put_before, first_changed};
@@ -160,6 +160,14 @@ pub(crate) fn endpoints_in(contexts: &[HostContext], host: HostId) -> &[Endpoint
     }
 }
 
+/// The first endpoint of a host that has one.
+pub(crate) fn first_endpoint(contexts: &[HostContext], host: HostId) -> EndpointId
+    requires { 0 < length (endpoints_of contexts.now host.0) }
+    ensures { result.0 ≡ slice_index (endpoints_of contexts.now host.0) 0 }
+{
+    endpoints_in(contexts, host)[0]
+}
+
 /// The least secondary identifier that is free at an endpoint of a host.
 pub(crate) fn least_free(bindings: &[Binding], host: HostId, endpoint: EndpointId) -> Secondary
     requires { length bindings.now ≤ 1024 }
@@ -205,7 +213,7 @@ pub(crate) fn lower(
     ensures capacity { vec_capacity bindings.new ≡ vec_capacity bindings.old }
 {
     let left = bindings[at].count() - 1;
-    if left == 0 {
+    if bindings[at].is_last() {
         bindings.remove(at).spend();
     } else {
         bindings[at].lower();

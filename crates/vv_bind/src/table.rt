@@ -115,7 +115,7 @@ impl BindTable {
         if let Some(at) = rows::place_of(&self.bindings, host, volume) {
             return rows::raise(&mut self.bindings, host, volume, at);
         }
-        let endpoint = rows::endpoints_in(&self.contexts, host)[0];
+        let endpoint = rows::first_endpoint(&self.contexts, host);
         let secondary = rows::least_free(&self.bindings, host, endpoint);
         rows::put(
             &mut self.bindings,

@@ -12,3 +12,5 @@ pub mod Entries
 pub mod Distinct
 pub mod Known
 pub mod Pool
+pub mod Lookups
+pub mod Charges

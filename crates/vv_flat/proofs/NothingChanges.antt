@@ -6,6 +6,7 @@ use Rattle.std.specs.Str.{bytes_eq}
 use Rattle.std.proofs.lemmas.List.{append-nil, length-map}
 use Rattle.std.proofs.lemmas.Bool.{eqb-true}
 use Rattle.std.proofs.lemmas.Slice.Eq.{bytes_eq-Decides}
+use Rattle.vv_units.specs.Pairs.{same_key, note_of, with_pair, without_pair, after_set}
 use Rattle.vv_flat.specs.Lists.{if_found, first_changed, first_removed, put_at, mapped_from, any_from}
 use Rattle.vv_flat.specs.State.{Durable, Volume, Task, Context, map_durable, volume_of, task_of}
 use Rattle.vv_flat.specs.Chunks.{unmapped_in, unmaps_any, is_in_ranges, touched_indexes}
@@ -14,7 +15,7 @@ use Rattle.vv_flat.specs.Bindings.{context_of, is_set_to, with_context, is_of_ho
 use Rattle.vv_flat.specs.Tasks.{job_turned, turned}
 use Rattle.vv_flat.specs.Profiles.{Misfit}
 use Rattle.vv_flat.specs.Refusals.{Refusal, Refuse, Nothing, Accept}
-use Rattle.vv_flat.specs.Changes.{Change, MakeContainer, MakeVolume, DeleteVolume, GrowVolume, SetMetadata, Snapshot, FastClone, Revert, Write, Unmap, SetEndpoints, Bind, Unbind, UnbindAll, StartClone, StartCopy, Turn, Cancel, stamps_of, metadata_of, with_note, has_note, with_volume, effect, judge}
+use Rattle.vv_flat.specs.Changes.{Change, MakeContainer, MakeVolume, DeleteVolume, GrowVolume, SetMetadata, Snapshot, FastClone, Revert, Write, Unmap, SetEndpoints, Bind, Unbind, UnbindAll, StartClone, StartCopy, Turn, Cancel, stamps_of, metadata_of, has_note, with_volume, effect, judge}
 use Rattle.vv_flat.proofs.MapDurable.{map-volume_of}
 
 -- the answer is nothing only where the test of nothing passes
@@ -72,26 +73,34 @@ unmap_from s u ranges i (x ∷ xs) e =
     unmap_step s u x xs _ (is_in_ranges ranges i && not (s x == 0)) _ e (unmap_from s u ranges (i + 1) xs)
 
 -- the metadata with the note that a key has, or without a key that it hasn't
-set_note_same : (pairs : List (List ℕ × List ℕ)) (key text : List ℕ) (o : Option (List ℕ × List ℕ))
-    → find (λ (p : List ℕ × List ℕ). bytes_eq p.0 key) pairs ≡ o
-    → if_found (if_found o (λ p. Some p.1) None) (λ old. bytes_eq old text) false ≡ true
-    → cond (is_none (if_found o (λ p. Some p.1) None)) (pairs ++ (key, text) ∷ [])
-    (first_changed (λ (p : List ℕ × List ℕ). bytes_eq p.0 key) (λ p. (p.0, text)) pairs) ≡ pairs
-set_note_same pairs key text None e same = cc
-set_note_same pairs key text (Some p) e same =
-    first_changed-same (λ (q : List ℕ × List ℕ). bytes_eq q.0 key) (λ q. (q.0, text)) pairs
-    (λ q found. let is_p : ◌≡◌ {A = List ℕ × List ℕ} p q = cc in
-    let old : p.1 ≡ text = (bytes_eq-Decides p.1 text).0 same in
-    let new : q.1 ≡ text = rw is_p at old in ap (λ t. (q.0, t)) (sym new))
+set_step : (p : List ℕ × List ℕ) (pairs : List (List ℕ × List ℕ)) (key text : List ℕ) (b : Bool)
+    → if_found (cond b (Some p.1) (note_of pairs key)) (λ old. bytes_eq old text) false ≡ true
+    → (if_found (note_of pairs key) (λ old. bytes_eq old text) false ≡ true → with_pair pairs key text ≡ pairs)
+    → cond b ((p.0, text) ∷ pairs) (p ∷ with_pair pairs key text) ≡ p ∷ pairs
+set_step p pairs key text true same there =
+    let old : p.1 ≡ text = (bytes_eq-Decides p.1 text).0 same in ap (λ t. (p.0, t) ∷ pairs) (sym old)
+set_step p pairs key text false same there = ap (λ ps. p ∷ ps) (there same)
 
-pub with_note-same : (pairs : List (List ℕ × List ℕ)) (key : List ℕ) (text : Option (List ℕ))
-    → has_note pairs key text ≡ true → with_note pairs key text ≡ pairs
-with_note-same pairs key None e = first_removed-same (λ (p : List ℕ × List ℕ). bytes_eq p.0 key) pairs (none_found (find (λ (p : List ℕ × List ℕ). bytes_eq p.0 key) pairs) e)
-  where
-    none_found : (o : Option (List ℕ × List ℕ)) → is_none (if_found o (λ p. Some p.1) None) ≡ true → is_none o ≡ true
-    none_found None h = refl
-    none_found (Some p) h = cc
-with_note-same pairs key (Some text) e = set_note_same pairs key text (find (λ (p : List ℕ × List ℕ). bytes_eq p.0 key) pairs) refl e
+set_note_same : (pairs : List (List ℕ × List ℕ)) (key text : List ℕ)
+    → if_found (note_of pairs key) (λ old. bytes_eq old text) false ≡ true → with_pair pairs key text ≡ pairs
+set_note_same [] key text same = cc
+set_note_same (p ∷ pairs) key text same = set_step p pairs key text (same_key key p.0) same (set_note_same pairs key text)
+
+unset_step : (p : List ℕ × List ℕ) (pairs : List (List ℕ × List ℕ)) (key : List ℕ) (b : Bool)
+    → is_none (cond b (Some p.1) (note_of pairs key)) ≡ true
+    → (is_none (note_of pairs key) ≡ true → without_pair pairs key ≡ pairs)
+    → cond b pairs (p ∷ without_pair pairs key) ≡ p ∷ pairs
+unset_step p pairs key true none there = cc
+unset_step p pairs key false none there = ap (λ ps. p ∷ ps) (there none)
+
+no_note_same : (pairs : List (List ℕ × List ℕ)) (key : List ℕ) → is_none (note_of pairs key) ≡ true → without_pair pairs key ≡ pairs
+no_note_same [] key none = refl
+no_note_same (p ∷ pairs) key none = unset_step p pairs key (same_key key p.0) none (no_note_same pairs key)
+
+pub after_set-same : (pairs : List (List ℕ × List ℕ)) (key : List ℕ) (text : Option (List ℕ))
+    → has_note pairs key text ≡ true → after_set pairs key text ≡ pairs
+after_set-same pairs key None e = no_note_same pairs key e
+after_set-same pairs key (Some text) e = set_note_same pairs key text e
 
 -- setting the context that stands
 context_same : (contexts : List Context) (host : ℕ) (endpoints : List ℕ) (o : Option Context)
@@ -161,9 +170,9 @@ module _ {X : Type 0} (s : X → ℕ) (u : X) where
       (grown_same chunks v.chunks (stamps_of (map_durable s d) n) (stamps_found d n v found) same))
   nothing_changes misfit values d (SetMetadata n key text) e =
       let same : has_note (metadata_of (map_durable s d) n) key text ≡ true = nothing_where _ _ _ e in
-      with_volume-same d n (λ v. record v { metadata = with_note v.metadata key text })
+      with_volume-same d n (λ v. record v { metadata = after_set v.metadata key text })
       (λ v found. ap (λ m. record v { metadata = m })
-      (with_note-same v.metadata key text (rw (metadata_found d n v found) at same)))
+      (after_set-same v.metadata key text (rw (metadata_found d n v found) at same)))
   nothing_changes misfit values d (Snapshot n) e = let f : false ≡ true = nothing_where _ _ _ e in cc
   nothing_changes misfit values d (FastClone n) e = let f : false ≡ true = nothing_where _ _ _ e in cc
   nothing_changes misfit values d (Revert n snapshot) e = let f : false ≡ true = nothing_where _ _ _ e in cc

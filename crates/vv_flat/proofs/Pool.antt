@@ -105,7 +105,7 @@ module _ (d : Durable ℕ) where
       omega (arith, s, r)
 
 -- the allocated indexes are as many as the allocated chunks
-allocated_long : (i : ℕ) (xs : List ℕ) → length (indexes_from (λ i s. not (s == 0)) i xs) ≡ allocated_count xs
+pub allocated_long : (i : ℕ) (xs : List ℕ) → length (indexes_from (λ i s. not (s == 0)) i xs) ≡ allocated_count xs
 allocated_long i [] = refl
 allocated_long i (x ∷ xs) =
     let c : allocated_count (x ∷ xs) ≡ cond (not (x == 0)) 1 0 + allocated_count xs = sum_by-cons (λ s. cond (not (s == 0)) 1 0) x xs in
@@ -117,7 +117,7 @@ allocated_long i (x ∷ xs) =
     go false e = omega (arith, e)
 
 -- a turn copies no more than is left
-turn_long : (image : List ℕ) (done : ℕ) → length (turn_indexes image done) ≤ allocated_count image - done
+pub turn_long : (image : List ℕ) (done : ℕ) → length (turn_indexes image done) ≤ allocated_count image - done
 turn_long image done =
     let a : length (allocated_indexes image) ≡ allocated_count image = allocated_long 0 image in
     let t : length (take turn_limit (drop done (allocated_indexes image))) ≡ min turn_limit (length (drop done (allocated_indexes image))) =
@@ -310,17 +310,21 @@ module _ (d : Durable ℕ) where
       omega (arith, u, r, s, h)
 
   -- what the rule on running clones says of the one of a task
-  kept_total : (t : Task) (c : RunningClone ℕ) → clones_rule d ≡ true → task_of d t.number ≡ Some t → clone_of d t.number ≡ Some c
-      → t.total ≡ allocated_count c.image
+  pub is_kept : (t : Task) (c : RunningClone ℕ) → clones_rule d ≡ true → task_of d t.number ≡ Some t → clone_of d t.number ≡ Some c
+      → is_clone_kept c t ≡ true
   unfolding clones_rule
-  kept_total t c rule found e =
+  is_kept t c rule found e =
       let kept : if_found (task_of d c.number) (is_clone_kept c) false ≡ true =
       all-found (λ (b : RunningClone ℕ). if_found (task_of d b.number) (is_clone_kept b) false) (λ b. b.number == t.number) c d.clones rule e in
       let number : c.number ≡ t.number = eqb-true c.number t.number (find-passes (λ (b : RunningClone ℕ). b.number == t.number) d.clones c e) in
       let task : task_of d c.number ≡ Some t = ap (λ m. task_of d m) number ∙ found in
-      let is_kept : is_clone_kept c t ≡ true = sym (ap (λ o. if_found o (is_clone_kept c) false) task) ∙ kept in
+      sym (ap (λ o. if_found o (is_clone_kept c) false) task) ∙ kept
+
+  kept_total : (t : Task) (c : RunningClone ℕ) → clones_rule d ≡ true → task_of d t.number ≡ Some t → clone_of d t.number ≡ Some c
+      → t.total ≡ allocated_count c.image
+  kept_total t c rule found e =
       eqb-true t.total (allocated_count c.image)
-      (and_left (t.total == allocated_count c.image) _ (and_left _ _ (and_left _ _ is_kept)))
+      (and_left (t.total == allocated_count c.image) _ (and_left _ _ (and_left _ _ (is_kept t c rule found e))))
 
   clone_turn_holds : (n : ℕ) (t : Task) (source : ℕ) → clones_rule d ≡ true → task_of d t.number ≡ Some t → is_running t ≡ true
       → is_clone t.job ≡ true → used d + reserved d ≤ d.geometry.pool_chunks → (o : Option (RunningClone ℕ)) → clone_of d t.number ≡ o

@@ -103,7 +103,7 @@ list_all-follows p q h (x ∷ xs) e =
     (list_all-follows p q h xs (and_right (p x) (list_all p xs) e))
 
 -- and what passes two tests passes what follows from both
-list_all-both : {A : Type 0} (p r q : A → Bool) → ((x : A) → p x ≡ true → r x ≡ true → q x ≡ true) → (xs : List A)
+pub list_all-both : {A : Type 0} (p r q : A → Bool) → ((x : A) → p x ≡ true → r x ≡ true → q x ≡ true) → (xs : List A)
     → list_all p xs ≡ true → list_all r xs ≡ true → list_all q xs ≡ true
 list_all-both p r q h [] e f = refl
 list_all-both p r q h (x ∷ xs) e f =

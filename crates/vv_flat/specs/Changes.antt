@@ -3,8 +3,9 @@
 -- of a chunk is looked at. The kinds are those of VASA 2.0's operations, of the writes and UNMAP of SBC and of this
 -- project's own calls; the order of refusals and all limits are this project's own.
 use Rattle.std.specs.Prelude.{ℕ, ◌+◌, ◌-◌, ◌*◌, ◌==◌, ◌||◌, Bool, true, false, not, List, [], ◌∷◌, ◌++◌, map, length, replicate, slice_index, filter, count_by, Option, Some, None, is_none, nat_le, nat_lt, if◌then◌else◌}
-use Rattle.std.specs.List.{find, list_any}
+use Rattle.std.specs.List.{list_any}
 use Rattle.std.specs.Str.{bytes_eq}
+use Rattle.vv_units.specs.Pairs.{note_of, after_set}
 use Rattle.vv_units.specs.declared.volume.VvolType.{VvolType}
 use Rattle.vv_units.specs.declared.volume.VolumeKind.{VolumeKind}
 use Rattle.vv_units.specs.declared.volume.VolumeKind.TheVariants.{Plain, SnapshotOf, FastCloneOf, FullCloneOf}
@@ -108,20 +109,10 @@ is_task_running d n = if_found (task_of d n) is_running false
 abbrev pub unmapped_count : List ℕ → List ℕ → ℕ
 unmapped_count stamps indexes = count_by (λ i. slice_index stamps i == 0) indexes
 
--- the note of a key in some metadata, if there is one
-abbrev pub note_of : List (List ℕ × List ℕ) → List ℕ → Option (List ℕ)
-note_of pairs key =
-    if_found (find (λ (p : List ℕ × List ℕ). bytes_eq p.0 key) pairs) (λ p. Some p.1) None
+-- Metadata are pairs of a key and a note, as `note_of` and `after_set` say: an old key keeps its place, a new one goes
+-- last, and with no note the key is gone.
 
--- The metadata with a key set to a note: an old key keeps its place, and a new one goes last. With no note the key is
--- gone.
-abbrev pub with_note : List (List ℕ × List ℕ) → List ℕ → Option (List ℕ) → List (List ℕ × List ℕ)
-with_note pairs key None = first_removed (λ (p : List ℕ × List ℕ). bytes_eq p.0 key) pairs
-with_note pairs key (Some note) =
-    if is_none (note_of pairs key) then (pairs ++ (key, note) ∷ [])
-    else first_changed (λ (p : List ℕ × List ℕ). bytes_eq p.0 key) (λ p. (p.0, note)) pairs
-
--- whether that changes nothing: the note stands already, or the key is missing already
+-- whether setting a note changes nothing: the note stands already, or the key is missing already
 abbrev pub has_note : List (List ℕ × List ℕ) → List ℕ → Option (List ℕ) → Bool
 has_note pairs key None = is_none (note_of pairs key)
 has_note pairs key (Some note) = if_found (note_of pairs key) (λ old. bytes_eq old note) false
@@ -349,7 +340,7 @@ effect {X} stamp_of values unmapped d (DeleteVolume n) =
 effect stamp_of values unmapped d (GrowVolume n chunks) =
     with_volume d n (λ v. record v { chunks = v.chunks ++ replicate (chunks - length v.chunks) unmapped })
 effect stamp_of values unmapped d (SetMetadata n key text) =
-    with_volume d n (λ v. record v { metadata = with_note v.metadata key text })
+    with_volume d n (λ v. record v { metadata = after_set v.metadata key text })
 effect stamp_of values unmapped d (Snapshot n) =
     if_found (volume_of d n)
     (λ v. and_volume d (record v { number = d.lsn + 1; kind = SnapshotOf (record { 0 = n }) })) d

@@ -13,8 +13,9 @@ use Rattle.vv_flat.specs.Bits.{allocated_indexes}
 use Rattle.vv_flat.specs.Bindings.{endpoints_of, is_bound, is_binding_of}
 use Rattle.vv_flat.specs.Tasks.{record_limit, running_limit}
 use Rattle.vv_flat.specs.Refusals.{last_lsn, pairs_limit}
-use Rattle.vv_flat.specs.Changes.{volume_limit, container_limit, binding_limit, bind_count_limit, key_limit, is_snapshot}
+use Rattle.vv_flat.specs.Changes.{Change, MakeContainer, MakeVolume, SetEndpoints, Bind, volume_limit, container_limit, binding_limit, bind_count_limit, key_limit, is_snapshot}
 use Rattle.vv_flat.specs.Chunks.{Entry, shape_of_tables}
+use Rattle.vv_flat.specs.Form.{is_formed}
 use Rattle.vv_flat.specs.Sharing.{shares, least_broken}
 
 -- The limits that no refusal names, since the forms of lines and of images keep them.
@@ -90,11 +91,13 @@ sizes_rule d =
     list_all (λ (v : Volume ℕ). is_volume_size d.geometry.chunk_blocks (length v.chunks)) d.volumes
     && list_all (λ (c : RunningClone ℕ). is_volume_size d.geometry.chunk_blocks (length c.image)) d.clones
 
+-- what each container is charged for is within its quota
+abbrev pub charges_fit : Durable ℕ → Bool
+charges_fit d = list_all (λ (k : Container). nat_le (charge d k.number) k.quota) d.containers
+
 -- Rule 5: the pool and each quota hold what they must.
 unfoldable pub space_rule : Durable ℕ → Bool
-space_rule d =
-    nat_le (used d + reserved d) d.geometry.pool_chunks
-    && list_all (λ (k : Container). nat_le (charge d k.number) k.quota) d.containers
+space_rule d = nat_le (used d + reserved d) d.geometry.pool_chunks && charges_fit d
 
 -- a host has no other binding of the volume
 abbrev pub is_single : List Binding → Bool
@@ -144,6 +147,20 @@ copies_rule d =
     list_all (λ (c : RunningCopy ℕ). if_found (task_of d c.number) (is_copy_kept d c) false) d.copies
     && all_different (running_targets d.tasks)
     && list_all (λ (t : Task). nat_le t.done t.total && (not (is_success t.state) || (t.done == t.total))) d.tasks
+
+-- What the shape decides of all that: the form, and all rules but the sixth.
+unfoldable pub keeps_shape_rules : Durable ℕ → Bool
+keeps_shape_rules d =
+    is_formed d && numbers_rule d && names_rule d && limits_rule d && sizes_rule d && space_rule d && bindings_rule d
+    && clones_rule d && copies_rule d
+
+-- The fields of a change are inside the limits that no refusal names.
+abbrev pub has_its_fields : Change → Bool
+has_its_fields (MakeContainer quota offers) = nat_le (length offers) offer_limit
+has_its_fields (MakeVolume k vtype chunks needs) = nat_le (length needs) need_limit
+has_its_fields (SetEndpoints host endpoints) = is_host host && nat_le (length endpoints) endpoint_limit
+has_its_fields (Bind host volume) = is_host host
+has_its_fields _ = true
 
 -- the first rule that fails, with the number that was found: 0, or for the sixth the least place that breaks it
 pub record RuleFault : Type 0 where

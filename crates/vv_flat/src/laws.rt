@@ -7,7 +7,8 @@ ghost use Rattle.vv_flat.specs.Profiles.{Misfit};
 ghost use Rattle.vv_flat.specs.Refusals.{Nothing, Accept};
 ghost use Rattle.vv_flat.specs.Space.{used, reserved, entries};
 ghost use Rattle.vv_flat.specs.Sharing.{shares, stamps_tell_bytes};
-ghost use Rattle.vv_flat.specs.Rules.{clones_rule};
+ghost use Rattle.vv_flat.specs.Form.{is_formed};
+ghost use Rattle.vv_flat.specs.Rules.{numbers_rule, names_rule, clones_rule, copies_rule, charges_fit};
 ghost use Rattle.vv_flat.specs.Changes.{Change, judge, effect, apply, apply_shape, new_stamp};
 ghost use Rattle.vv_flat.specs.Replay.{fits, replayed};
 ghost use Rattle.vv_flat.specs.Flat.{has_its_bytes, new_values, flat_after};
@@ -91,6 +92,14 @@ pub fn chunks_stay_within_the_pool()
     ensures { (misfit : Option Misfit) → (d : Durable ℕ) → (change : Change) → IsTrue (clones_rule d)
         → judge misfit d change ≡ Accept → used d + reserved d ≤ d.geometry.pool_chunks
         → used (apply_shape d change) + reserved (apply_shape d change) ≤ d.geometry.pool_chunks }
+{}
+
+/// And the charge of each container within its quota, in tables that have their form and keep the rules on numbers,
+/// names, running clones and running copies.
+pub fn charges_stay_within_quotas()
+    ensures { (misfit : Option Misfit) → (d : Durable ℕ) → (change : Change) → IsTrue (is_formed d)
+        → IsTrue (numbers_rule d) → IsTrue (names_rule d) → IsTrue (clones_rule d) → IsTrue (copies_rule d)
+        → judge misfit d change ≡ Accept → IsTrue (charges_fit d) → IsTrue (charges_fit (apply_shape d change)) }
 {}
 
 /// Tables that share rightly stand for an array in which two chunks of one index and one stamp have the same bytes.

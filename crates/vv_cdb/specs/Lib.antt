@@ -1,0 +1,4 @@
+pub mod Senses
+pub mod Numbers
+pub mod Cdbs
+pub mod UnmapLists

@@ -13,7 +13,8 @@ use Rattle.vv_flat.proofs.Known.{all-put, all-changed}
 use Rattle.vv_bind.specs.declared.fault.BindFault.{BindFault}
 use Rattle.vv_bind.specs.declared.fault.BindFault.TheVariants.{NoEndpoint, TooManyCount, TooManyBindings}
 use Rattle.vv_bind.specs.Table.{BindState, IsHost, IsKept, numbers, address, bind_fault, with_one_more, all_rise, all_rise_from, context_below, binding_below, has_host_number}
-use Rattle.vv_bind.proofs.RowLemmas.{length-put_before, rise-removed, rise_over, rise-put, rise-changed, binding_through, address_total, found_is, found_passes, not_found, changed_step, is_some_at}
+use Rattle.vv_flat.proofs.Positions.{length-put_before, found_is, found_passes, not_found, changed_step, is_some_at}
+use Rattle.vv_bind.proofs.RowLemmas.{rise-removed, rise_over, rise-put, rise-changed, binding_through, address_total}
 
 module _ {A : Type 0} (p : A → Bool) where
   length_change : (f : A → A) (x : A) (xs : List A) (b : Bool) → length (first_changed p f xs) ≡ length xs

@@ -213,21 +213,21 @@ abbrev in_copy : List Task → List (Volume ℕ) → ℕ → RunningCopy ℕ →
 in_copy tasks volumes k c = in_aim volumes k c.pieces (aim_of tasks c.number)
 
 -- The task of a running copy runs, and its target stands.
-abbrev is_aimed : Durable ℕ → RunningCopy ℕ → Bool
+abbrev pub is_aimed : Durable ℕ → RunningCopy ℕ → Bool
 is_aimed d c =
     if_found (task_of d c.number)
     (λ (t : Task). is_running t && if_found (job_target t.job) (λ (n : ℕ). is_some (volume_of d n)) false) false
 
-record Aimed (d : Durable ℕ) (c : RunningCopy ℕ) : Type 0 where
-  task : Task
-  number : ℕ
-  volume : Volume ℕ
-  is_task : task_of d c.number ≡ Some task
-  runs : is_running task ≡ true
-  aims : job_target task.job ≡ Some number
-  stands : volume_of d number ≡ Some volume
+pub record Aimed (d : Durable ℕ) (c : RunningCopy ℕ) : Type 0 where
+  pub task : Task
+  pub number : ℕ
+  pub volume : Volume ℕ
+  pub is_task : task_of d c.number ≡ Some task
+  pub runs : is_running task ≡ true
+  pub aims : job_target task.job ≡ Some number
+  pub stands : volume_of d number ≡ Some volume
 
-aimed : (d : Durable ℕ) (c : RunningCopy ℕ) → is_aimed d c ≡ true → Aimed d c
+pub aimed : (d : Durable ℕ) (c : RunningCopy ℕ) → is_aimed d c ≡ true → Aimed d c
 aimed d c e = of_task (task_of d c.number) refl e
   where
     of_volume : (t : Task) (n : ℕ) → task_of d c.number ≡ Some t → is_running t ≡ true → job_target t.job ≡ Some n
@@ -250,16 +250,16 @@ aimed d c e = of_task (task_of d c.number) refl e
 -- What the form and the rules say of an array, as it is used here. The next log number is that of no volume and no task,
 -- and nothing is in a container of that number; no clone has a volume's number; each running copy has a target, and no two
 -- running tasks have the same one.
-record Ordered (d : Durable ℕ) : Type 0 where
-  containers : all_rising (map (λ (k : Container). k.number) d.containers) ≡ true
-  volumes : list_all (λ (v : Volume ℕ). not (v.number == d.lsn + 1)) d.volumes ≡ true
-  tasks : list_all (λ (t : Task). not (t.number == d.lsn + 1)) d.tasks ≡ true
-  homes : list_all (λ (v : Volume ℕ). not (v.container == d.lsn + 1)) d.volumes ≡ true
-  clone_homes : list_all (λ (c : RunningClone ℕ). not (c.container == d.lsn + 1)) d.clones ≡ true
-  apart : list_all (λ (c : RunningClone ℕ). is_none (volume_of d c.number)) d.clones ≡ true
-  copies : all_rising (map (λ (c : RunningCopy ℕ). c.number) d.copies) ≡ true
-  aimed : list_all (is_aimed d) d.copies ≡ true
-  targets : all_different (running_targets d.tasks) ≡ true
+pub record Ordered (d : Durable ℕ) : Type 0 where
+  pub containers : all_rising (map (λ (k : Container). k.number) d.containers) ≡ true
+  pub volumes : list_all (λ (v : Volume ℕ). not (v.number == d.lsn + 1)) d.volumes ≡ true
+  pub tasks : list_all (λ (t : Task). not (t.number == d.lsn + 1)) d.tasks ≡ true
+  pub homes : list_all (λ (v : Volume ℕ). not (v.container == d.lsn + 1)) d.volumes ≡ true
+  pub clone_homes : list_all (λ (c : RunningClone ℕ). not (c.container == d.lsn + 1)) d.clones ≡ true
+  pub apart : list_all (λ (c : RunningClone ℕ). is_none (volume_of d c.number)) d.clones ≡ true
+  pub copies : all_rising (map (λ (c : RunningCopy ℕ). c.number) d.copies) ≡ true
+  pub aimed : list_all (is_aimed d) d.copies ≡ true
+  pub targets : all_different (running_targets d.tasks) ≡ true
 
 -- The one container that is asked is charged for so much more at most, and all others for no more.
 abbrev Within : Durable ℕ → Durable ℕ → ℕ → ℕ → Type 0
@@ -340,7 +340,7 @@ module _ (d : Durable ℕ) where
       (λ c e. let a : Aimed d c = aimed d c e in copy_below tasks volumes k c a (aim c a) (same c a)) d.copies ordered.aimed
 
   -- The next log number is no target's and no running copy's.
-  other_number : Ordered d → (c : RunningCopy ℕ) (a : Aimed d c) → (d.lsn + 1 == a.number) ≡ false
+  pub other_number : Ordered d → (c : RunningCopy ℕ) (a : Aimed d c) → (d.lsn + 1 == a.number) ≡ false
   other_number ordered c a =
       let is : a.volume.number ≡ a.number =
       eqb-true a.volume.number a.number (find-passes (λ (v : Volume ℕ). v.number == a.number) d.volumes a.volume a.stands) in
@@ -362,7 +362,7 @@ module _ (d : Durable ℕ) where
   target_of c a = ap (λ b. cond b (job_target a.task.job) None) a.runs ∙ a.aims
 
   -- What isn't busy is no target.
-  unbusy : (n : ℕ) → is_busy d n ≡ false → (c : RunningCopy ℕ) (a : Aimed d c) → (a.number == n) ≡ false
+  pub unbusy : (n : ℕ) → is_busy d n ≡ false → (c : RunningCopy ℕ) (a : Aimed d c) → (a.number == n) ≡ false
   unbusy n free c a =
       let f : if_found (running_target a.task) (λ m. m == n) false ≡ false =
       none-found (λ (t : Task). t.number == c.number) (λ (t : Task). if_found (running_target t) (λ m. m == n) false) a.task d.tasks free a.is_task in
@@ -538,7 +538,7 @@ part_sum false x y z h = omega arith
 
 module _ (d : Durable ℕ) where
   -- The records with room for one more have the running ones.
-  room_kept : (m : ℕ) (t : Task) → task_of d m ≡ Some t → is_running t ≡ true
+  pub room_kept : (m : ℕ) (t : Task) → task_of d m ≡ Some t → is_running t ≡ true
       → find (λ (u : Task). u.number == m) (with_room d.tasks) ≡ Some t
   room_kept m t found runs = of_room (nat_le record_limit (length d.tasks))
     where
@@ -546,7 +546,7 @@ module _ (d : Durable ℕ) where
       of_room true = find-kept (λ (u : Task). not (is_running u)) (λ (u : Task). u.number == m) t d.tasks found (ap not runs)
       of_room false = found
 
-  room_new : Ordered d → list_all (λ (t : Task). not (t.number == d.lsn + 1)) (with_room d.tasks) ≡ true
+  pub room_new : Ordered d → list_all (λ (t : Task). not (t.number == d.lsn + 1)) (with_room d.tasks) ≡ true
   room_new ordered = of_room (nat_le record_limit (length d.tasks))
     where
       of_room : (b : Bool) → list_all (λ (t : Task). not (t.number == d.lsn + 1)) (cond b (first_removed (λ (u : Task). not (is_running u)) d.tasks) d.tasks) ≡ true
@@ -973,11 +973,11 @@ module _ (d : Durable ℕ) (form : is_formed d ≡ true) where
   unfolding is_formed
   formed_containers = and_right _ _ (and_left _ _ (and_left _ _ (and_left _ _ (and_left _ _ (and_left _ _ (and_left _ _ form))))))
 
-  formed_tasks : all_rising (map (λ (t : Task). t.number) d.tasks) ≡ true
+  pub formed_tasks : all_rising (map (λ (t : Task). t.number) d.tasks) ≡ true
   unfolding is_formed
   formed_tasks = and_right _ _ (and_left _ _ (and_left _ _ form))
 
-  formed_clones : map (λ (c : RunningClone ℕ). c.number) d.clones ≡ running_clones d.tasks
+  pub formed_clones : map (λ (c : RunningClone ℕ). c.number) d.clones ≡ running_clones d.tasks
   unfolding is_formed
   formed_clones = (bytes_eq-Decides (map (λ (c : RunningClone ℕ). c.number) d.clones) (running_clones d.tasks)).0 (and_right _ _ (and_left _ _ form))
 
@@ -985,7 +985,7 @@ module _ (d : Durable ℕ) (form : is_formed d ≡ true) where
   unfolding is_formed
   formed_copies = (bytes_eq-Decides (map (λ (c : RunningCopy ℕ). c.number) d.copies) (running_copies d.tasks)).0 (and_right _ _ form)
 
-  clones_rise : all_rising (map (λ (c : RunningClone ℕ). c.number) d.clones) ≡ true
+  pub clones_rise : all_rising (map (λ (c : RunningClone ℕ). c.number) d.clones) ≡ true
   clones_rise =
       ap all_rising formed_clones ∙ rising-filter (λ (t : Task). t.number) (λ t. is_running t && is_clone t.job) d.tasks formed_tasks
 
@@ -1036,7 +1036,7 @@ module _ (d : Durable ℕ) (form : is_formed d ≡ true) where
           let other : list_any (λ m. m == c.number) cs ≡ true = any-found (λ (c : RunningClone ℕ). c.number) c.number c d.clones found in
           let f : all_different (vs ++ ks ++ cs) ≡ false = comes_twice c.number (vs ++ ks) cs both other in cc
 
-  in_order : numbers_rule d ≡ true → names_rule d ≡ true → copies_rule d ≡ true → Ordered d
+  pub in_order : numbers_rule d ≡ true → names_rule d ≡ true → copies_rule d ≡ true → Ordered d
   unfolding numbers_rule names_rule copies_rule
   in_order numbers names copies =
       let logged : list_all (λ (k : Container). (k.number == 0) || is_logged d.lsn k.number) d.containers ≡ true =

@@ -1,14 +1,15 @@
 //! Laws of the definitions. Each is a function without arguments that does nothing: what it ensures is the law.
 ghost use Rattle.std.specs.Prelude.{◌≡◌, ◌≤◌, ℕ, ◌+◌, List, map, Option, IsTrue};
-ghost use Rattle.vv_flat.specs.State.{Array, Durable, map_durable};
+ghost use Rattle.vv_units.specs.declared.geometry.Geometry.{Geometry};
+ghost use Rattle.vv_flat.specs.State.{Array, Durable, empty_durable, map_durable};
 ghost use Rattle.vv_flat.specs.Chunks.{ChunkValue, Entry, filled, unmapped_value, unmapped_entry, shape, shape_of_tables, filled_tables, placed_entries};
-ghost use Rattle.vv_flat.specs.Restart.{restarted, interrupted};
+ghost use Rattle.vv_flat.specs.Restart.{restarted, interrupted_durable, interrupted};
 ghost use Rattle.vv_flat.specs.Profiles.{Misfit};
 ghost use Rattle.vv_flat.specs.Refusals.{Nothing, Accept};
 ghost use Rattle.vv_flat.specs.Space.{used, reserved, entries};
 ghost use Rattle.vv_flat.specs.Sharing.{shares, stamps_tell_bytes};
 ghost use Rattle.vv_flat.specs.Form.{is_formed};
-ghost use Rattle.vv_flat.specs.Rules.{numbers_rule, names_rule, clones_rule, copies_rule, charges_fit};
+ghost use Rattle.vv_flat.specs.Rules.{numbers_rule, names_rule, clones_rule, copies_rule, charges_fit, keeps_shape_rules, has_its_fields, meets_rules};
 ghost use Rattle.vv_flat.specs.Changes.{Change, judge, effect, apply, apply_shape, new_stamp};
 ghost use Rattle.vv_flat.specs.Replay.{fits, replayed};
 ghost use Rattle.vv_flat.specs.Flat.{has_its_bytes, new_values, flat_after};
@@ -122,4 +123,36 @@ pub fn a_restart_is_done_once<X>()
 /// A second interruption does nothing more.
 pub fn an_interruption_is_done_once<X>()
     ensures { (a : Array X) → interrupted (interrupted a) ≡ interrupted a }
+{}
+
+/// In tables that have their form and keep the rules that their shape decides, an accepted change whose fields are inside
+/// their limits keeps the form and all these rules.
+pub fn the_rules_of_the_shape_stay()
+    ensures { (misfit : Option Misfit) → (d : Durable ℕ) → (change : Change) → IsTrue (keeps_shape_rules d)
+        → IsTrue (has_its_fields change) → judge misfit d change ≡ Accept → IsTrue (keeps_shape_rules (apply_shape d change)) }
+{}
+
+/// A record that fits tables keeps the sharing of their places, where the tables keep those rules.
+pub fn a_record_keeps_the_sharing()
+    ensures { (tables : Durable Entry) → (change : Change) → (places : List ℕ) → IsTrue (keeps_shape_rules (shape_of_tables tables))
+        → IsTrue (shares tables) → IsTrue (fits tables change places) → IsTrue (shares (replayed tables change places)) }
+{}
+
+/// Tables that have their form and meet all nine rules still do after a record that fits them, whose fields are inside
+/// their limits.
+pub fn a_record_keeps_all_rules()
+    ensures { (tables : Durable Entry) → (change : Change) → (places : List ℕ) → IsTrue (is_formed tables)
+        → IsTrue (meets_rules tables) → IsTrue (has_its_fields change) → IsTrue (fits tables change places)
+        → IsTrue (is_formed (replayed tables change places)) × IsTrue (meets_rules (replayed tables change places)) }
+{}
+
+/// An interruption keeps the form of tables and all nine rules.
+pub fn an_interruption_keeps_all_rules()
+    ensures { (tables : Durable Entry) → IsTrue (is_formed tables) → IsTrue (meets_rules tables)
+        → IsTrue (is_formed (interrupted_durable tables)) × IsTrue (meets_rules (interrupted_durable tables)) }
+{}
+
+/// The tables of an empty array have their form and meet all nine rules.
+pub fn the_empty_tables_meet_all_rules()
+    ensures { (geometry : Geometry) → IsTrue (is_formed (empty_durable {X = Entry} geometry)) × IsTrue (meets_rules (empty_durable geometry)) }
 {}

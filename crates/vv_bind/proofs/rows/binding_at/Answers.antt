@@ -2,7 +2,7 @@ use Rattle.std.proofs.Common.{sym}
 use Rattle.vv_flat.specs.State.{Binding}
 use Rattle.vv_flat.specs.Bindings.{is_address}
 use Rattle.vv_bind.specs.Table.{address}
-use Rattle.vv_bind.proofs.RowLemmas.{found_is, not_found}
+use Rattle.vv_flat.proofs.Positions.{found_is, not_found}
 use Rattle.vv_bind.proofs.rows.binding_at.Goals as goal
 
 pub returns-in-Some : goal.returns-in-Some

@@ -1,6 +1,6 @@
 use Rattle.std.proofs.Common.{ap, arith, length, ◌∙◌, unwrap_or, nat_lt}
 use Rattle.vv_flat.specs.State.{Context}
-use Rattle.vv_bind.proofs.RowLemmas.{position_or, place-le-length}
+use Rattle.vv_flat.proofs.Positions.{position_or, place-le-length}
 use Rattle.vv_bind.proofs.rows.context_place_in_order.Goals as goal
 
 pub returns-clause-at : goal.returns-clause-at

@@ -2,7 +2,8 @@ use Rattle.std.proofs.Common.{◌≡◌, ◌∙◌, ◌-◌, ◌<◌, Some, sym,
 use Rattle.vv_flat.specs.State.{Binding}
 use Rattle.vv_flat.specs.Bindings.{is_address}
 use Rattle.vv_bind.specs.Table.{address}
-use Rattle.vv_bind.proofs.RowLemmas.{last_count, not_last, found_is, found_same, without_last, without_one}
+use Rattle.vv_flat.proofs.Positions.{found_is, found_same}
+use Rattle.vv_bind.proofs.RowLemmas.{last_count, not_last, without_last, without_one}
 use Rattle.vv_bind.proofs.rows.lower.Goals as goal
 
 pub returns-then-is_last-clause-left : goal.returns-then-is_last-clause-left

@@ -2,7 +2,7 @@ use Rattle.std.proofs.Common.{ap, arith, length, ◌∙◌, unwrap_or}
 use Rattle.vv_flat.specs.State.{Binding}
 use Rattle.vv_flat.specs.Bindings.{is_below}
 use Rattle.vv_bind.specs.Table.{address}
-use Rattle.vv_bind.proofs.RowLemmas.{position_or, place-le-length}
+use Rattle.vv_flat.proofs.Positions.{position_or, place-le-length}
 use Rattle.vv_bind.proofs.rows.place_in_order.Goals as goal
 
 pub returns-clause-at : goal.returns-clause-at

@@ -2,7 +2,8 @@ use Rattle.std.proofs.Common.{◌≡◌, ◌∙◌, ◌+◌, ◌≢◌, sym, ap,
 use Rattle.vv_flat.specs.State.{Binding}
 use Rattle.vv_flat.specs.Bindings.{is_binding_of}
 use Rattle.vv_bind.specs.Table.{address}
-use Rattle.vv_bind.proofs.RowLemmas.{found_is, found_passes, host_is, address_is, changed_step}
+use Rattle.vv_flat.proofs.Positions.{found_is, found_passes, changed_step}
+use Rattle.vv_bind.proofs.RowLemmas.{host_is, address_is}
 use Rattle.vv_bind.proofs.rows.raise.Goals as goal
 
 pub raise-requires : goal.raise-requires

@@ -4,7 +4,8 @@ use Rattle.vv_flat.specs.Lists.{if_found}
 use Rattle.vv_flat.specs.State.{Address, Binding, Context}
 use Rattle.vv_flat.specs.Bindings.{is_binding_of, binding_of, binding_at, bound_address, endpoints_of, new_address, with_binding}
 use Rattle.vv_bind.specs.Table.{BindState, address, bind_fault, with_one_more}
-use Rattle.vv_bind.proofs.RowLemmas.{is_some_at, place_in, not_found}
+use Rattle.vv_flat.proofs.Positions.{is_some_at, not_found}
+use Rattle.vv_bind.proofs.RowLemmas.{place_in}
 use Rattle.vv_bind.proofs.TableLemmas.{state, few_bound, room_new, kept-changed, kept-put, some_endpoint, address_found, with_found, with_new, new_is, table_is}
 use Rattle.vv_bind.proofs.table.BindTable.bind.Goals as goal
 

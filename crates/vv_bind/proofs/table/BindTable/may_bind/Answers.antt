@@ -3,7 +3,8 @@ use Rattle.vv_flat.specs.State.{Binding}
 use Rattle.vv_flat.specs.Bindings.{is_binding_of}
 use Rattle.vv_bind.specs.declared.fault.BindFault.TheVariants.{TooManyCount, TooManyBindings}
 use Rattle.vv_bind.specs.Table.{BindState, bind_fault}
-use Rattle.vv_bind.proofs.RowLemmas.{place_in, found_is, not_found}
+use Rattle.vv_flat.proofs.Positions.{found_is, not_found}
+use Rattle.vv_bind.proofs.RowLemmas.{place_in}
 use Rattle.vv_bind.proofs.TableLemmas.{state, some_listed, fault_bound, fault_new, count_full, count_free, table_full, table_free}
 use Rattle.vv_bind.proofs.table.BindTable.may_bind.Goals as goal
 

@@ -2,7 +2,8 @@ use Rattle.std.proofs.Common.{◌≡◌, ◌-◌, None, sym, ap, subst, option_m
 use Rattle.vv_flat.specs.State.{Binding}
 use Rattle.vv_flat.specs.Bindings.{is_address, binding_at, without_binding}
 use Rattle.vv_bind.specs.Table.{BindState, address}
-use Rattle.vv_bind.proofs.RowLemmas.{place_in, not_found}
+use Rattle.vv_flat.proofs.Positions.{not_found}
+use Rattle.vv_bind.proofs.RowLemmas.{place_in}
 use Rattle.vv_bind.proofs.TableLemmas.{kept-without, without_none, same_table}
 use Rattle.vv_bind.proofs.table.BindTable.unbind.Goals as goal
 

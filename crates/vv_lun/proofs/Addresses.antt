@@ -1,0 +1,94 @@
+-- Lists of addresses in rising order.
+use Rattle.std.proofs.Common.{◌≡◌, ◌∙◌, ℕ, ◌+◌, ◌≤◌, ◌||◌, ◌&&◌, ◌<◌, refl, Bool, true, false, not, cond, List, [], ◌∷◌, length, IsTrue, ap, sym, subst, arith}
+use Rattle.std.specs.Prelude.{nat_lt, filter}
+use Rattle.std.specs.List.{position_or_len, insert, list_all}
+use Rattle.std.proofs.lemmas.Bool.Decides.{nat_tests}
+use Rattle.vv_flat.specs.Lists.{put_before}
+use Rattle.vv_flat.specs.State.{Address}
+use Rattle.vv_flat.specs.Bindings.{is_address, is_below}
+use Rattle.vv_flat.specs.Volatile.{has_attention, without_attention}
+use Rattle.vv_flat.proofs.Positions.{put_at_first, length-put_before}
+use Rattle.vv_flat.proofs.KeepLists.{length-filter_le}
+use Rattle.vv_flat.proofs.Shares.{and_left, and_right, and_both}
+use Rattle.vv_bind.specs.Table.{all_rise, all_rise_from}
+use Rattle.vv_bind.proofs.RowLemmas.{rise_over, rise-put, address_total}
+use Rattle.vv_lun.specs.Attentions.{IsKept, may_wait, addresses_rise}
+
+-- an insertion at the place in the order
+pub put_here : {A : Type 0} (test : A → Bool) (xs lent : List A) (x : A) (at : ℕ) → lent ≡ xs → at ≡ position_or_len test lent
+    → insert xs at x ≡ put_before test x xs
+put_here test xs lent x at same place =
+    ap (λ n. insert xs n x) (place ∙ ap (λ ys. position_or_len test ys) same) ∙ sym (put_at_first test x xs)
+
+-- what is left of a rising list rises
+module _ {A : Type 0} (below : A → A → Bool)
+    (through : (x y z : A) → below x y ≡ true → below y z ≡ true → below x z ≡ true) (test : A → Bool) where
+  left_rise : (x y : A) (ys : List A) (b : Bool) → below x y ≡ true
+      → all_rise_from below y (filter test ys) ≡ true → all_rise_from below x (cond b (y ∷ filter test ys) (filter test ys)) ≡ true
+  left_rise x y ys true e k = and_both (below x y) (all_rise_from below y (filter test ys)) e k
+  left_rise x y ys false e k = rise_over below through x y (filter test ys) e k
+
+  rise_from-filter : (x : A) (xs : List A) → all_rise_from below x xs ≡ true → all_rise_from below x (filter test xs) ≡ true
+  rise_from-filter x [] h = refl
+  rise_from-filter x (y ∷ ys) h =
+      left_rise x y ys (test y) (and_left (below x y) (all_rise_from below y ys) h)
+      (rise_from-filter y ys (and_right (below x y) (all_rise_from below y ys) h))
+
+  rise_of : (x : A) (xs : List A) → all_rise_from below x xs ≡ true → all_rise below xs ≡ true
+  rise_of x [] h = refl
+  rise_of x (y ∷ ys) h = and_right (below x y) (all_rise_from below y ys) h
+
+  left_first : (x : A) (xs : List A) (b : Bool) → all_rise_from below x (filter test xs) ≡ true → all_rise below (cond b (x ∷ filter test xs) (filter test xs)) ≡ true
+  left_first x xs true h = h
+  left_first x xs false h = rise_of x (filter test xs) h
+
+  rise-filter : (xs : List A) → all_rise below xs ≡ true → all_rise below (filter test xs) ≡ true
+  rise-filter [] h = refl
+  rise-filter (x ∷ xs) h = left_first x xs (test x) (rise_from-filter x xs h)
+
+below_through : (x y z : Address) → is_below x y ≡ true → is_below y z ≡ true → is_below x z ≡ true
+below_through x y z p q = grind (arith, nat_tests)
+
+-- an address that is not there is below or above each that is
+apart_head : (a b : Address) (bs : List Address) (c : Bool) → is_address b a ≡ c → (c || has_attention bs a) ≡ false
+    → (has_attention bs a ≡ false → list_all (λ y. is_below a y || is_below y a) bs ≡ true)
+    → ((is_below a b || is_below b a) && list_all (λ y. is_below a y || is_below y a) bs) ≡ true
+apart_head a b bs true is h k = absurd (cc)
+apart_head a b bs false is h k =
+    and_both (is_below a b || is_below b a) (list_all (λ y. is_below a y || is_below y a) bs)
+    (address_total a.host a.endpoint a.secondary b.host b.endpoint b.secondary is) (k h)
+
+all_apart : (a : Address) (bs : List Address) → has_attention bs a ≡ false → list_all (λ y. is_below a y || is_below y a) bs ≡ true
+all_apart a [] h = refl
+all_apart a (b ∷ bs) h = apart_head a b bs (is_address b a) refl h (all_apart a bs)
+
+few_enough : (n : ℕ) (b : Bool) → b ≡ false → IsTrue (b || nat_lt n 1024) → n < 1024
+few_enough n true f h = absurd (cc)
+few_enough n false f h = grind (arith, nat_tests)
+
+-- one more address, where it was not there
+pub kept_more : (xs lent next : List Address) (room more : ℕ) (a : Address) (b : Bool) → IsKept xs room → lent ≡ xs
+    → b ≡ has_attention lent a → b ≡ false → IsTrue (may_wait xs a) → next ≡ put_before (is_below a) a xs → room ≤ more → IsKept next more
+kept_more xs lent next room more a b kept same is unset may put larger =
+    let free : has_attention xs a ≡ false = ap (λ ys. has_attention ys a) (sym same) ∙ sym is ∙ unset in
+    let few : length xs < 1024 = few_enough (length xs) (has_attention xs a) free may in
+    let longer : length next ≡ length xs + 1 = ap (λ ys. length ys) put ∙ length-put_before (is_below a) a xs in
+    let fits = kept.fits in
+    record {
+      few = omega arith;
+      rise = subst (λ (ys : List Address). IsTrue (addresses_rise ys)) (sym put) (rise-put is_below a xs (all_apart a xs free) kept.rise);
+      fits = omega arith;
+    }
+
+-- without an address
+pub kept_less : (xs next : List Address) (room more : ℕ) (a : Address) → IsKept xs room
+    → next ≡ without_attention xs a → more ≡ room → IsKept next more
+kept_less xs next room more a kept is same =
+    let fewer : length next ≤ length xs = subst (λ (ys : List Address). length ys ≤ length xs) (sym is) (length-filter_le (λ (b : Address). not (is_address b a)) xs) in
+    let few = kept.few in
+    let fits = kept.fits in
+    record {
+      few = omega arith;
+      rise = subst (λ (ys : List Address). IsTrue (addresses_rise ys)) (sym is) (rise-filter is_below below_through (λ (b : Address). not (is_address b a)) xs kept.rise);
+      fits = omega arith;
+    }

@@ -1,0 +1,9 @@
+use Rattle.std.proofs.Common.{rules, not}
+use Rattle.std.proofs.lemmas.Fn.{filter_same}
+use Rattle.vv_flat.specs.State.{Address}
+use Rattle.vv_flat.specs.Bindings.{is_address}
+use Rattle.vv_lun.proofs.attentions.take_out.Goals as goal
+
+pub returns-clause-items : goal.returns-clause-items
+returns-clause-items c =
+    filter_same _ (λ (b : Address). not (is_address b c.args.address)) _ (λ x b f k. search rules) _ _ c.retain.ensures.filtered

@@ -1,0 +1,13 @@
+pub mod Options
+pub mod Parts
+pub mod Kept
+pub mod Gates
+pub mod Bytes
+pub mod Appended
+pub mod Crash
+pub mod Headers
+pub mod Made
+pub mod Switched
+pub mod Opened
+pub mod Replayed
+pub mod Callers

@@ -1,17 +1,16 @@
--- The rows of a table of bindings: which secondary identifiers are bound, edits at an address, and lists that rise.
+-- The rows of a table of bindings: which secondary identifiers are bound, and edits at an address.
 use Rattle.std.proofs.Common.{◌≡◌, ◌≢◌, ℕ, zero, suc, ◌+◌, ◌<◌, ◌≤◌, ◌&&◌, ◌||◌, refl, ap, sym, ◌∙◌, Bool, true, false, cond, List, [], ◌∷◌, length, set, get_or, arith}
 use Rattle.std.proofs.Common.{◌-◌, ◌⊎◌, ⊎_elim, inl, inr}
 use Rattle.std.proofs.lemmas.Bool.{true≢false, cases_lt}
 use Rattle.std.specs.Prelude.{is_some, is_none, Option, Some, None, unwrap_or, nat_lt, ◌==◌}
-use Rattle.std.specs.List.{find, list_all, list_any, position, position_or_len, insert, remove}
+use Rattle.std.specs.List.{find, list_any, position, position_or_len, insert, remove}
 use Rattle.std.proofs.lemmas.Bool.Decides.{nat_tests}
-use Rattle.vv_flat.specs.Lists.{if_found, numbers_from, first_changed, put_before, first_removed}
+use Rattle.vv_flat.specs.Lists.{if_found, numbers_from, put_before, first_removed}
 use Rattle.vv_flat.specs.State.{Context, Address, Binding}
 use Rattle.vv_flat.specs.Bindings.{is_of_host, without_host, host_bindings, is_address, is_below, is_binding_of, binding_at, endpoints_of, free_secondary, count_left, without_binding}
-use Rattle.vv_flat.proofs.Shares.{and_left, and_right, and_both}
 use Rattle.vv_flat.proofs.Positions.{put_at_first, found_is, not_found, changed_step, removed_step, filter-removed, count-removed, length-removed, filter-none, count-none, is_some_at, none_at}
 use Rattle.vv_units.specs.declared.numbers.EndpointId.{EndpointId}
-use Rattle.vv_bind.specs.Table.{numbers, address, with_one_more, all_rise, all_rise_from, context_below, binding_below}
+use Rattle.vv_bind.specs.Table.{numbers, address, with_one_more, context_below, binding_below}
 
 lt_or_eq : (k n : ℕ) → k < n + 1 → (k < n) ⊎ (k ≡ n)
 lt_or_eq k n h = ⊎_elim (λ l. inl l) (λ g. inr (omega arith)) (cases_lt k n)
@@ -155,96 +154,6 @@ without_one bs a i x y place is more next =
 pub any_number : (n : ℕ) (es : List EndpointId) → list_any (λ (e : EndpointId). e.0 == n) es ≡ list_any (λ e. e == n) (numbers es)
 any_number n [] = refl
 any_number n (e ∷ es) = ap (λ b. (e.0 == n) || b) (any_number n es)
-
-module _ {A : Type 0} (below : A → A → Bool)
-    (through : (x y z : A) → below x y ≡ true → below y z ≡ true → below x z ≡ true) where
-  -- a list that rises from y on rises from what is below y
-  pub rise_over : (x y : A) (ys : List A) → below x y ≡ true → all_rise_from below y ys ≡ true → all_rise_from below x ys ≡ true
-  rise_over x y [] e h = refl
-  rise_over x y (z ∷ zs) e h =
-      and_both (below x z) (all_rise_from below z zs)
-      (through x y z e (and_left (below y z) (all_rise_from below z zs) h)) (and_right (below y z) (all_rise_from below z zs) h)
-
-  removed_rise : (p : A → Bool) (x y : A) (ys : List A) (b : Bool) → below x y ≡ true → all_rise_from below y ys ≡ true
-      → all_rise_from below y (first_removed p ys) ≡ true → all_rise_from below x (cond b ys (y ∷ first_removed p ys)) ≡ true
-  removed_rise p x y ys true e h k = rise_over x y ys e h
-  removed_rise p x y ys false e h k = and_both (below x y) (all_rise_from below y (first_removed p ys)) e k
-
-  rise_from-removed : (p : A → Bool) (x : A) (xs : List A) → all_rise_from below x xs ≡ true → all_rise_from below x (first_removed p xs) ≡ true
-  rise_from-removed p x [] h = refl
-  rise_from-removed p x (y ∷ ys) h =
-      let l = and_left (below x y) (all_rise_from below y ys) h in
-      let r = and_right (below x y) (all_rise_from below y ys) h in
-      removed_rise p x y ys (p y) l r (rise_from-removed p y ys r)
-
-  rise_of : (x : A) (xs : List A) → all_rise_from below x xs ≡ true → all_rise below xs ≡ true
-  rise_of x [] h = refl
-  rise_of x (y ∷ ys) h = and_right (below x y) (all_rise_from below y ys) h
-
-  removed_first : (p : A → Bool) (x : A) (xs : List A) (b : Bool) → all_rise_from below x xs ≡ true
-      → all_rise below (cond b xs (x ∷ first_removed p xs)) ≡ true
-  removed_first p x xs true h = rise_of x xs h
-  removed_first p x xs false h = rise_from-removed p x xs h
-
-  pub rise-removed : (p : A → Bool) (xs : List A) → all_rise below xs ≡ true → all_rise below (first_removed p xs) ≡ true
-  rise-removed p [] h = refl
-  rise-removed p (x ∷ xs) h = removed_first p x xs (p x) h
-
-module _ {A : Type 0} (below : A → A → Bool) where
-  -- a new item at its place in the order
-  put_rise : (x w y : A) (ys : List A) (b : Bool) → below x y ≡ b → below w x ≡ true → below w y ≡ true → (b || below y x) ≡ true
-      → all_rise_from below y ys ≡ true → (below y x ≡ true → all_rise_from below y (put_before (below x) x ys) ≡ true)
-      → all_rise_from below w (cond b (x ∷ y ∷ ys) (y ∷ put_before (below x) x ys)) ≡ true
-  put_rise x w y ys true is e f g h k = and_both (below w x) (below x y && all_rise_from below y ys) e (and_both (below x y) (all_rise_from below y ys) is h)
-  put_rise x w y ys false is e f g h k = and_both (below w y) (all_rise_from below y (put_before (below x) x ys)) f (k g)
-
-  rise_from-put : (x w : A) (xs : List A) → below w x ≡ true → list_all (λ y. below x y || below y x) xs ≡ true
-      → all_rise_from below w xs ≡ true → all_rise_from below w (put_before (below x) x xs) ≡ true
-  rise_from-put x w [] e g h = and_both (below w x) true e refl
-  rise_from-put x w (y ∷ ys) e g h =
-      let r = and_right (below w y) (all_rise_from below y ys) h in
-      put_rise x w y ys (below x y) refl e (and_left (below w y) (all_rise_from below y ys) h)
-      (and_left (below x y || below y x) (list_all (λ y. below x y || below y x) ys) g) r
-      (λ f. rise_from-put x y ys f (and_right (below x y || below y x) (list_all (λ y. below x y || below y x) ys) g) r)
-
-  put_first : (x y : A) (ys : List A) (b : Bool) → below x y ≡ b → (b || below y x) ≡ true
-      → all_rise_from below y ys ≡ true → (below y x ≡ true → all_rise_from below y (put_before (below x) x ys) ≡ true)
-      → all_rise below (cond b (x ∷ y ∷ ys) (y ∷ put_before (below x) x ys)) ≡ true
-  put_first x y ys true is g h k = and_both (below x y) (all_rise_from below y ys) is h
-  put_first x y ys false is g h k = k g
-
-  pub rise-put : (x : A) (xs : List A) → list_all (λ y. below x y || below y x) xs ≡ true
-      → all_rise below xs ≡ true → all_rise below (put_before (below x) x xs) ≡ true
-  rise-put x [] g h = refl
-  rise-put x (y ∷ ys) g h =
-      put_first x y ys (below x y) refl (and_left (below x y || below y x) (list_all (λ y. below x y || below y x) ys) g) h
-      (λ f. rise_from-put x y ys f (and_right (below x y || below y x) (list_all (λ y. below x y || below y x) ys) g) h)
-
-module _ {A : Type 0} (below : A → A → Bool) (g : A → A)
-    (left : (x y : A) → below (g x) y ≡ below x y) (right : (x y : A) → below x (g y) ≡ below x y) where
-  same_from : (x : A) (xs : List A) → all_rise_from below (g x) xs ≡ all_rise_from below x xs
-  same_from x [] = refl
-  same_from x (y ∷ ys) = rw (left x y)
-
-  changed_rise : (p : A → Bool) (w x : A) (xs : List A) (b : Bool) → below w x ≡ true → all_rise_from below x xs ≡ true
-      → all_rise_from below x (first_changed p g xs) ≡ true → all_rise_from below w (cond b (g x ∷ xs) (x ∷ first_changed p g xs)) ≡ true
-  changed_rise p w x xs true e h k = and_both (below w (g x)) (all_rise_from below (g x) xs) (right w x ∙ e) (same_from x xs ∙ h)
-  changed_rise p w x xs false e h k = and_both (below w x) (all_rise_from below x (first_changed p g xs)) e k
-
-  rise_from-changed : (p : A → Bool) (w : A) (xs : List A) → all_rise_from below w xs ≡ true → all_rise_from below w (first_changed p g xs) ≡ true
-  rise_from-changed p w [] h = refl
-  rise_from-changed p w (x ∷ xs) h =
-      let r = and_right (below w x) (all_rise_from below x xs) h in
-      changed_rise p w x xs (p x) (and_left (below w x) (all_rise_from below x xs) h) r (rise_from-changed p x xs r)
-
-  changed_first : (p : A → Bool) (x : A) (xs : List A) (b : Bool) → all_rise_from below x xs ≡ true
-      → all_rise below (cond b (g x ∷ xs) (x ∷ first_changed p g xs)) ≡ true
-  changed_first p x xs true h = same_from x xs ∙ h
-  changed_first p x xs false h = rise_from-changed p x xs h
-
-  pub rise-changed : (p : A → Bool) (xs : List A) → all_rise below xs ≡ true → all_rise below (first_changed p g xs) ≡ true
-  rise-changed p [] h = refl
-  rise-changed p (x ∷ xs) h = changed_first p x xs (p x) h
 
 -- ---- the orders
 pub context_through : (x y z : Context) → context_below x y ≡ true → context_below y z ≡ true → context_below x z ≡ true

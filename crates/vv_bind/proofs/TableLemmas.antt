@@ -4,7 +4,7 @@ use Rattle.std.specs.Prelude.{Option, Some, None, IfSome, is_some, filter, slice
 use Rattle.std.specs.List.{find, list_all, position}
 use Rattle.std.proofs.lemmas.Bool.Decides.{nat_tests}
 use Rattle.vv_units.specs.declared.numbers.EndpointId.{EndpointId}
-use Rattle.vv_flat.specs.Lists.{if_found, first_changed, put_before, first_removed}
+use Rattle.vv_flat.specs.Lists.{all_rise, all_rise_from, if_found, first_changed, put_before, first_removed}
 use Rattle.vv_flat.specs.State.{Context, Address, Binding}
 use Rattle.vv_flat.specs.Form.{all_below, bindings_rise}
 use Rattle.vv_flat.specs.Bindings.{is_address, is_below, is_binding_of, is_of_host, context_of, was_set, with_context, endpoints_of, binding_at, binding_of, free_secondary, new_address, with_binding, count_left, without_binding, without_host}
@@ -12,9 +12,10 @@ use Rattle.vv_flat.proofs.Shares.{and_left, and_right, and_both}
 use Rattle.vv_flat.proofs.Known.{all-put, all-changed}
 use Rattle.vv_bind.specs.declared.fault.BindFault.{BindFault}
 use Rattle.vv_bind.specs.declared.fault.BindFault.TheVariants.{NoEndpoint, TooManyCount, TooManyBindings}
-use Rattle.vv_bind.specs.Table.{BindState, IsHost, IsKept, numbers, address, bind_fault, with_one_more, all_rise, all_rise_from, context_below, binding_below, has_host_number}
+use Rattle.vv_bind.specs.Table.{BindState, IsHost, IsKept, numbers, address, bind_fault, with_one_more, context_below, binding_below, has_host_number}
 use Rattle.vv_flat.proofs.Positions.{length-put_before, found_is, found_passes, not_found, changed_step, is_some_at}
-use Rattle.vv_bind.proofs.RowLemmas.{rise-removed, rise_over, rise-put, rise-changed, binding_through, address_total}
+use Rattle.vv_flat.proofs.KeepLists.{rise-removed, rise-put, rise-changed, rise-filter}
+use Rattle.vv_bind.proofs.RowLemmas.{binding_through, address_total}
 
 module _ {A : Type 0} (p : A → Bool) where
   length_change : (f : A → A) (x : A) (xs : List A) (b : Bool) → length (first_changed p f xs) ≡ length xs
@@ -41,31 +42,6 @@ module _ {A : Type 0} (p : A → Bool) where
   filter-le : (xs : List A) → length (filter p xs) ≤ length xs
   filter-le [] = omega arith
   filter-le (x ∷ xs) = few_left x xs (p x) (filter-le xs)
-
-module _ {A : Type 0} (below : A → A → Bool)
-    (through : (x y z : A) → below x y ≡ true → below y z ≡ true → below x z ≡ true) (p : A → Bool) where
-  kept_rise : (x y : A) (ys : List A) (b : Bool) → below x y ≡ true
-      → all_rise_from below y (filter p ys) ≡ true → all_rise_from below x (cond b (y ∷ filter p ys) (filter p ys)) ≡ true
-  kept_rise x y ys true e k = and_both (below x y) (all_rise_from below y (filter p ys)) e k
-  kept_rise x y ys false e k = rise_over below through x y (filter p ys) e k
-
-  rise_from-filter : (x : A) (xs : List A) → all_rise_from below x xs ≡ true → all_rise_from below x (filter p xs) ≡ true
-  rise_from-filter x [] h = refl
-  rise_from-filter x (y ∷ ys) h =
-      kept_rise x y ys (p y) (and_left (below x y) (all_rise_from below y ys) h)
-      (rise_from-filter y ys (and_right (below x y) (all_rise_from below y ys) h))
-
-  rises : (x : A) (xs : List A) → all_rise_from below x xs ≡ true → all_rise below xs ≡ true
-  rises x [] h = refl
-  rises x (y ∷ ys) h = and_right (below x y) (all_rise_from below y ys) h
-
-  filter_first : (x : A) (xs : List A) (b : Bool) → all_rise_from below x (filter p xs) ≡ true → all_rise below (cond b (x ∷ filter p xs) (filter p xs)) ≡ true
-  filter_first x xs true h = h
-  filter_first x xs false h = rises x (filter p xs) h
-
-  rise-filter : (xs : List A) → all_rise below xs ≡ true → all_rise below (filter p xs) ≡ true
-  rise-filter [] h = refl
-  rise-filter (x ∷ xs) h = filter_first x xs (p x) (rise_from-filter x xs h)
 
 -- ---- bindings
 apart_head : (x y : Binding) (ys : List Binding) (b : Bool) → is_address y.address x.address ≡ b

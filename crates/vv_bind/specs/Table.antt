@@ -1,9 +1,9 @@
 -- The table of contexts and bindings, and when a bind may not be done. That a table holds 1024 bindings, and a binding
 -- counts up to 65,535, is this project's own choice.
-use Rattle.std.specs.Prelude.{ℕ, ◌≤◌, ◌==◌, ◌&&◌, Bool, true, IsTrue, List, [], ◌∷◌, length, map, Option, Some, None, nat_le, nat_lt, if◌then◌else◌}
+use Rattle.std.specs.Prelude.{ℕ, ◌≤◌, ◌==◌, ◌&&◌, Bool, IsTrue, List, length, map, Option, Some, None, nat_le, nat_lt, if◌then◌else◌}
 use Rattle.std.specs.List.{list_all}
 use Rattle.vv_units.specs.declared.numbers.EndpointId.{EndpointId}
-use Rattle.vv_flat.specs.Lists.{if_found, put_before}
+use Rattle.vv_flat.specs.Lists.{if_found, put_before, all_rise}
 use Rattle.vv_flat.specs.State.{Context, Address, Binding}
 use Rattle.vv_flat.specs.Bindings.{endpoints_of, binding_of, is_below}
 use Rattle.vv_bind.specs.declared.fault.BindFault.{BindFault}
@@ -44,15 +44,6 @@ context_below c d = nat_lt c.host d.host
 
 abbrev pub binding_below : Binding → Binding → Bool
 binding_below b c = is_below b.address c.address
-
--- whether each item is below the next one, from x on
-abbrev pub all_rise_from : {A : Type 0} → (A → A → Bool) → A → List A → Bool
-all_rise_from below x [] = true
-all_rise_from below x (y ∷ ys) = below x y && all_rise_from below y ys
-
-abbrev pub all_rise : {A : Type 0} → (A → A → Bool) → List A → Bool
-all_rise below [] = true
-all_rise below (x ∷ xs) = all_rise_from below x xs
 
 abbrev pub has_host_number : Context → Bool
 has_host_number c = nat_le 1 c.host && nat_le c.host 64

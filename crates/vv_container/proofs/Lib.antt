@@ -1,2 +1,1 @@
-pub mod RisingRows
 pub mod RowLemmas

@@ -10,7 +10,7 @@ use Rattle.vv_flat.proofs.Shares.{and_both, list_all-follows}
 use Rattle.vv_flat.proofs.Steps.{find-passes}
 use Rattle.vv_container.specs.declared.container.Container.{Container as GivenContainer}
 use Rattle.vv_container.specs.Table.{ChargedContainer, numbered, is_numbered, is_above_all, row_of, container_of, with_charge, IsKept}
-use Rattle.vv_container.proofs.RisingRows.{rising-push, keys-changed, length-changed, put-last}
+use Rattle.vv_flat.proofs.RisingRows.{rising-push, keys-changed, length-changed, put-last}
 
 pub place_in : {A : Type 0} (p : A → Bool) (xs lent : List A) (r : Option ℕ) → lent ≡ xs → r ≡ position p lent → position p xs ≡ r
 place_in p xs lent r e h = ap (λ ys. position p ys) (sym e) ∙ sym h

@@ -7,7 +7,7 @@ use Rattle.std.proofs.lemmas.List.Sums.{sum_by-cons}
 use Rattle.std.proofs.lemmas.List.Folds.{list_all-map}
 use Rattle.std.proofs.lemmas.Bool.{not-true, eqb-true}
 use Rattle.std.proofs.lemmas.Bool.Decides.{nat_tests}
-use Rattle.vv_flat.specs.Lists.{first_changed, put_before, first_removed, all_different, all_above, all_rising}
+use Rattle.vv_flat.specs.Lists.{first_changed, put_before, first_removed, all_different, all_above, all_rising, all_rise, all_rise_from}
 use Rattle.vv_flat.specs.State.{Address, Binding}
 use Rattle.vv_flat.specs.Bindings.{is_address, is_below}
 use Rattle.vv_flat.specs.Form.{all_below, bindings_rise}
@@ -15,19 +15,10 @@ use Rattle.vv_flat.proofs.Shares.{and_left, and_right, and_both, list_all-follow
 use Rattle.vv_flat.proofs.Known.{all-filter}
 use Rattle.vv_flat.proofs.Lookups.{none-left}
 
--- whether each item is below the next one, from x on
-abbrev pub all_rise_from : {A : Type 0} → (A → A → Bool) → A → List A → Bool
-all_rise_from below x [] = true
-all_rise_from below x (y ∷ ys) = below x y && all_rise_from below y ys
-
-abbrev pub all_rise : {A : Type 0} → (A → A → Bool) → List A → Bool
-all_rise below [] = true
-all_rise below (x ∷ xs) = all_rise_from below x xs
-
 module _ {A : Type 0} (below : A → A → Bool)
     (through : (x y z : A) → below x y ≡ true → below y z ≡ true → below x z ≡ true) where
   -- a list that rises from y on rises from what is below y
-  rise_over : (x y : A) (ys : List A) → below x y ≡ true → all_rise_from below y ys ≡ true → all_rise_from below x ys ≡ true
+  pub rise_over : (x y : A) (ys : List A) → below x y ≡ true → all_rise_from below y ys ≡ true → all_rise_from below x ys ≡ true
   rise_over x y [] e h = refl
   rise_over x y (z ∷ zs) e h =
       and_both (below x z) (all_rise_from below z zs)

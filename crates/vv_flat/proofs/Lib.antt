@@ -14,6 +14,7 @@ pub mod Known
 pub mod Pool
 pub mod Lookups
 pub mod Positions
+pub mod RisingRows
 pub mod Charges
 pub mod Standings
 pub mod NewEntries

@@ -67,3 +67,12 @@ all_above n (m ∷ ms) = nat_lt n m && all_above m ms
 abbrev pub all_rising : List ℕ → Bool
 all_rising [] = true
 all_rising (n ∷ ns) = all_above n ns
+
+-- whether each item is below the next one, from x on
+abbrev pub all_rise_from : {A : Type 0} → (A → A → Bool) → A → List A → Bool
+all_rise_from below x [] = true
+all_rise_from below x (y ∷ ys) = below x y && all_rise_from below y ys
+
+abbrev pub all_rise : {A : Type 0} → (A → A → Bool) → List A → Bool
+all_rise below [] = true
+all_rise below (x ∷ xs) = all_rise_from below x xs

@@ -1,6 +1,6 @@
 -- Lists of addresses in rising order.
-use Rattle.std.proofs.Common.{◌≡◌, ◌∙◌, ℕ, ◌+◌, ◌≤◌, ◌||◌, ◌&&◌, ◌<◌, refl, Bool, true, false, not, cond, List, [], ◌∷◌, length, IsTrue, ap, sym, subst, arith}
-use Rattle.std.specs.Prelude.{nat_lt, filter}
+use Rattle.std.proofs.Common.{◌≡◌, ◌∙◌, ℕ, ◌+◌, ◌≤◌, ◌||◌, ◌&&◌, ◌<◌, refl, Bool, true, false, not, List, [], ◌∷◌, length, IsTrue, ap, sym, subst, arith}
+use Rattle.std.specs.Prelude.{nat_lt}
 use Rattle.std.specs.List.{position_or_len, insert, list_all}
 use Rattle.std.proofs.lemmas.Bool.Decides.{nat_tests}
 use Rattle.vv_flat.specs.Lists.{put_before}
@@ -8,10 +8,9 @@ use Rattle.vv_flat.specs.State.{Address}
 use Rattle.vv_flat.specs.Bindings.{is_address, is_below}
 use Rattle.vv_flat.specs.Volatile.{has_attention, without_attention}
 use Rattle.vv_flat.proofs.Positions.{put_at_first, length-put_before}
-use Rattle.vv_flat.proofs.KeepLists.{length-filter_le}
-use Rattle.vv_flat.proofs.Shares.{and_left, and_right, and_both}
-use Rattle.vv_bind.specs.Table.{all_rise, all_rise_from}
-use Rattle.vv_bind.proofs.RowLemmas.{rise_over, rise-put, address_total}
+use Rattle.vv_flat.proofs.KeepLists.{length-filter_le, rise-put, rise-filter}
+use Rattle.vv_flat.proofs.Shares.{and_both}
+use Rattle.vv_bind.proofs.RowLemmas.{address_total}
 use Rattle.vv_lun.specs.Attentions.{IsKept, may_wait, addresses_rise}
 
 -- an insertion at the place in the order
@@ -19,32 +18,6 @@ pub put_here : {A : Type 0} (test : A → Bool) (xs lent : List A) (x : A) (at :
     → insert xs at x ≡ put_before test x xs
 put_here test xs lent x at same place =
     ap (λ n. insert xs n x) (place ∙ ap (λ ys. position_or_len test ys) same) ∙ sym (put_at_first test x xs)
-
--- what is left of a rising list rises
-module _ {A : Type 0} (below : A → A → Bool)
-    (through : (x y z : A) → below x y ≡ true → below y z ≡ true → below x z ≡ true) (test : A → Bool) where
-  left_rise : (x y : A) (ys : List A) (b : Bool) → below x y ≡ true
-      → all_rise_from below y (filter test ys) ≡ true → all_rise_from below x (cond b (y ∷ filter test ys) (filter test ys)) ≡ true
-  left_rise x y ys true e k = and_both (below x y) (all_rise_from below y (filter test ys)) e k
-  left_rise x y ys false e k = rise_over below through x y (filter test ys) e k
-
-  rise_from-filter : (x : A) (xs : List A) → all_rise_from below x xs ≡ true → all_rise_from below x (filter test xs) ≡ true
-  rise_from-filter x [] h = refl
-  rise_from-filter x (y ∷ ys) h =
-      left_rise x y ys (test y) (and_left (below x y) (all_rise_from below y ys) h)
-      (rise_from-filter y ys (and_right (below x y) (all_rise_from below y ys) h))
-
-  rise_of : (x : A) (xs : List A) → all_rise_from below x xs ≡ true → all_rise below xs ≡ true
-  rise_of x [] h = refl
-  rise_of x (y ∷ ys) h = and_right (below x y) (all_rise_from below y ys) h
-
-  left_first : (x : A) (xs : List A) (b : Bool) → all_rise_from below x (filter test xs) ≡ true → all_rise below (cond b (x ∷ filter test xs) (filter test xs)) ≡ true
-  left_first x xs true h = h
-  left_first x xs false h = rise_of x (filter test xs) h
-
-  rise-filter : (xs : List A) → all_rise below xs ≡ true → all_rise below (filter test xs) ≡ true
-  rise-filter [] h = refl
-  rise-filter (x ∷ xs) h = left_first x xs (test x) (rise_from-filter x xs h)
 
 below_through : (x y z : Address) → is_below x y ≡ true → is_below y z ≡ true → is_below x z ≡ true
 below_through x y z p q = grind (arith, nat_tests)

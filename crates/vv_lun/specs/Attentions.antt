@@ -4,7 +4,7 @@ use Rattle.std.specs.Prelude.{ℕ, ◌≤◌, ◌||◌, Bool, IsTrue, List, leng
 use Rattle.vv_flat.specs.State.{Address}
 use Rattle.vv_flat.specs.Bindings.{is_below}
 use Rattle.vv_flat.specs.Volatile.{has_attention}
-use Rattle.vv_bind.specs.Table.{all_rise}
+use Rattle.vv_flat.specs.Lists.{all_rise}
 
 -- the most addresses
 abbrev pub attention_limit : ℕ

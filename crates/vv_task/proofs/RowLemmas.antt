@@ -22,7 +22,7 @@ use Rattle.vv_flat.proofs.Positions.{found_is, found_passes, changed_step, lengt
 use Rattle.vv_flat.proofs.Steps.{find-passes}
 use Rattle.vv_task.specs.Table.{is_numbered, numbers, is_above_all, task_numbered, runs, noted, IsKept}
 use Rattle.vv_flat.proofs.KeepLists.{rising-removed}
-use Rattle.vv_task.proofs.RisingRows.{rising-push, keys-changed, length-changed, put-last, count-all}
+use Rattle.vv_flat.proofs.RisingRows.{rising-push, keys-changed, length-changed, put-last, count-all}
 
 pub place_in : {A : Type 0} (p : A → Bool) (xs lent : List A) (r : Option ℕ) → lent ≡ xs → r ≡ position p lent → position p xs ≡ r
 place_in p xs lent r e h = ap (λ ys. position p ys) (sym e) ∙ sym h

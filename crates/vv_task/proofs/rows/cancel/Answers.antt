@@ -3,7 +3,7 @@ use Rattle.vv_units.specs.declared.volume.TaskState.TheVariants.{Cancelled}
 use Rattle.vv_flat.specs.State.{Task}
 use Rattle.vv_flat.proofs.Positions.{not_found, changed_step}
 use Rattle.vv_task.specs.Table.{is_numbered}
-use Rattle.vv_task.proofs.RisingRows.{changed-none}
+use Rattle.vv_flat.proofs.RisingRows.{changed-none}
 use Rattle.vv_task.proofs.RowLemmas.{place_in}
 use Rattle.vv_task.proofs.rows.cancel.Goals as goal
 

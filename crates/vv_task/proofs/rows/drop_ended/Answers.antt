@@ -2,7 +2,7 @@ use Rattle.std.proofs.Common.{◌∙◌, None, Some, not}
 use Rattle.vv_flat.specs.State.{Task}
 use Rattle.vv_flat.specs.Space.{is_running}
 use Rattle.vv_flat.proofs.Positions.{not_found, removed_step}
-use Rattle.vv_task.proofs.RisingRows.{removed-none}
+use Rattle.vv_flat.proofs.RisingRows.{removed-none}
 use Rattle.vv_task.proofs.RowLemmas.{place_in}
 use Rattle.vv_task.proofs.rows.drop_ended.Goals as goal
 

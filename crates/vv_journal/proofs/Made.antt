@@ -73,13 +73,13 @@ module _ (geometry : Geometry) (disk head field tables shut : List ℕ) where
       → length field ≡ 8 → be_number field ≡ second_spelling + length tables → length shut ≡ 256 → ((i : ℕ) → get_or shut i 0 ≡ 0)
       → Holds (fresh_log geometry tables) made
   made_holds size fits head_size words version blocks pool map field_size number shut_size zeros =
-      let l1 : length closed ≡ disk_len geometry = length-overwritten disk 0 (0 ∷ []) ∙ size in
-      let l2 : length headed ≡ disk_len geometry = length-overwritten closed 8 head ∙ l1 in
-      let l3 : length selected ≡ disk_len geometry = length-overwritten headed 512 (0 ∷ []) ∙ l2 in
-      let l4 : length measured ≡ disk_len geometry = length-overwritten selected (half_at geometry 0) field ∙ l3 in
-      let l5 : length tabled ≡ disk_len geometry = length-overwritten measured (half_at geometry 0 + 8) tables ∙ l4 in
-      let l6 : length gated ≡ disk_len geometry = length-overwritten tabled (gates_at geometry 0) shut ∙ l5 in
-      let l7 : length made ≡ disk_len geometry = length-overwritten gated 0 (165 ∷ []) ∙ l6 in
+      let closed_long : length closed ≡ disk_len geometry = length-overwritten disk 0 (0 ∷ []) ∙ size in
+      let headed_long : length headed ≡ disk_len geometry = length-overwritten closed 8 head ∙ closed_long in
+      let selected_long : length selected ≡ disk_len geometry = length-overwritten headed 512 (0 ∷ []) ∙ headed_long in
+      let measured_long : length measured ≡ disk_len geometry = length-overwritten selected (half_at geometry 0) field ∙ selected_long in
+      let tabled_long : length tabled ≡ disk_len geometry = length-overwritten measured (half_at geometry 0 + 8) tables ∙ measured_long in
+      let gated_long : length gated ≡ disk_len geometry = length-overwritten tabled (gates_at geometry 0) shut ∙ tabled_long in
+      let made_long : length made ≡ disk_len geometry = length-overwritten gated 0 (165 ∷ []) ∙ gated_long in
       -- what stands in the first half from the end of the header on
       let last : (i m : ℕ) → 1 ≤ i → bytes_at i m made ≡ bytes_at i m gated = λ i m le. apart_written gated 0 i m (165 ∷ []) (inr (omega (arith, le))) in
       -- a field of the header
@@ -89,9 +89,9 @@ module _ (geometry : Geometry) (disk head field tables shut : List ℕ) where
       ∙ apart_written measured (half_at geometry 0 + 8) (8 + i) m tables (inl (omega (arith, le)))
       ∙ apart_written selected (half_at geometry 0) (8 + i) m field (inl (omega (arith, le)))
       ∙ apart_written headed 512 (8 + i) m (0 ∷ []) (inl (omega (arith, le)))
-      ∙ part_written closed 8 i m head (omega (arith, l1, head_size)) (omega (arith, le, head_size)) in
-      let first : get_or made 0 0 ≡ 165 = byte_written gated 0 165 (omega (arith, l6)) in
-      let formatted : is_formatted made ≡ true = and_from _ _ (le-leb _ _ (omega (arith, l7))) (eq-eqb _ _ first) in
+      ∙ part_written closed 8 i m head (omega (arith, closed_long, head_size)) (omega (arith, le, head_size)) in
+      let first : get_or made 0 0 ≡ 165 = byte_written gated 0 165 (omega (arith, gated_long)) in
+      let formatted : is_formatted made ≡ true = and_from _ _ (le-leb _ _ (omega (arith, made_long))) (eq-eqb _ _ first) in
       let header = header_from made geometry 2 formatted
       (ap be_number (kept 0 8 (omega arith)) ∙ words) (ap be_number (kept 8 4 (omega arith)) ∙ version) refl
       (ap be_number (kept 12 4 (omega arith)) ∙ blocks) (ap be_number (kept 16 4 (omega arith)) ∙ pool) (ap be_number (kept 20 4 (omega arith)) ∙ map) in
@@ -100,27 +100,27 @@ module _ (geometry : Geometry) (disk head field tables shut : List ℕ) where
       ∙ byte_before (gates_at geometry 0) (length shut) 512 tabled gated (omega arith) (overwritten_within tabled (gates_at geometry 0) shut)
       ∙ byte_before (half_at geometry 0 + 8) (length tables) 512 measured tabled (omega arith) (overwritten_within measured (half_at geometry 0 + 8) tables)
       ∙ byte_before (half_at geometry 0) (length field) 512 selected measured (omega arith) (overwritten_within selected (half_at geometry 0) field)
-      ∙ byte_written headed 512 0 (omega (arith, l2)) in
+      ∙ byte_written headed 512 0 (omega (arith, headed_long)) in
       let measure : number_at 8 (half_at geometry 0) made ≡ second_spelling + length tables =
       ap be_number (last (half_at geometry 0) 8 (omega arith)
       ∙ apart_written tabled (gates_at geometry 0) (half_at geometry 0) 8 shut (inl (omega arith))
       ∙ apart_written measured (half_at geometry 0 + 8) (half_at geometry 0) 8 tables (inl (omega arith))
       ∙ ap (λ (n : ℕ). bytes_at (half_at geometry 0) n measured) (sym field_size)
-      ∙ bytes_at-overwritten selected (half_at geometry 0) field (omega (arith, l3, field_size))) ∙ number in
+      ∙ bytes_at-overwritten selected (half_at geometry 0) field (omega (arith, selected_long, field_size))) ∙ number in
       let bytes : bytes_at (half_at geometry 0 + 8) (length tables) made ≡ tables =
       last (half_at geometry 0 + 8) (length tables) (omega arith)
       ∙ apart_written tabled (gates_at geometry 0) (half_at geometry 0 + 8) (length tables) shut (inl (omega (arith, fits)))
-      ∙ bytes_at-overwritten measured (half_at geometry 0 + 8) tables (omega (arith, l4, fits)) in
+      ∙ bytes_at-overwritten measured (half_at geometry 0 + 8) tables (omega (arith, measured_long, fits)) in
       let gates : gates_of geometry 0 made ≡ shut =
       last (gates_at geometry 0) 256 (omega arith)
       ∙ ap (λ (n : ℕ). bytes_at (gates_at geometry 0) n gated) (sym shut_size)
-      ∙ bytes_at-overwritten tabled (gates_at geometry 0) shut (omega (arith, l5, shut_size)) in
+      ∙ bytes_at-overwritten tabled (gates_at geometry 0) shut (omega (arith, tabled_long, shut_size)) in
       let none : open_count (gates_of geometry 0 made) ≡ 0 = ap open_count gates ∙ no_open shut zeros in
       record {
         is = log_from (fresh_log geometry tables) made (record {
           header = header;
           half = ap (λ (b : ℕ). b % 2) selector;
-          size = l7;
+          size = made_long;
           area = second_area (record { geometry = geometry; version = 2 }) 0 (length tables) tables made measure fits bytes;
           records = no_records geometry 0 made none;
         });

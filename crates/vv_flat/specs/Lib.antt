@@ -12,6 +12,7 @@ pub mod Refusals
 pub mod Changes
 pub mod Sharing
 pub mod Rules
+pub mod Fields
 pub mod Form
 pub mod Replay
 pub mod Flat

@@ -93,7 +93,7 @@ pub fn write_chunk<D: Disk>(
     ensures cause { HasCause (D.write_faults disk.old) (D.write_faults disk.new) result }
 
     ensures len { D.size disk.new ≡ D.size disk.old }
-    ensures read_faults { D.read_faults disk.old ≤ D.read_faults disk.new }
+    ensures read_faults { D.read_faults disk.new ≡ D.read_faults disk.old }
 
     ensures images { D.is_honest disk.old → Follows (DiffersWithin (place_range geometry place).at (place_range geometry place).len)
         (D.is_image disk.old) (D.is_image disk.new) }

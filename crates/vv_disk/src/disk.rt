@@ -66,7 +66,7 @@ pub trait Disk {
         ensures honesty { is_honest self.new ↔ is_honest self.old }
 
         ensures cause { HasCause (write_faults self.old) (write_faults self.new) result }
-        ensures read_faults { read_faults self.old ≤ read_faults self.new };
+        ensures read_faults { read_faults self.new ≡ read_faults self.old };
 
     /// Puts all that was written on the disk for sure.
     fn sync(&mut self) -> Result<(), Failed>
@@ -80,7 +80,7 @@ pub trait Disk {
         ensures honesty { is_honest self.new ↔ is_honest self.old }
 
         ensures cause { HasCause (write_faults self.old) (write_faults self.new) result }
-        ensures read_faults { read_faults self.old ≤ read_faults self.new };
+        ensures read_faults { read_faults self.new ≡ read_faults self.old };
 
     /// A content that is told is of the disk's length.
     ghost content_fits: { (disk : Self) (c : List ℕ) → content disk ≡ Some c → length c ≡ size disk };

@@ -210,7 +210,7 @@ impl Disk for FileDisk {
         ensures broken { IsTrue self.old.is_broken → IsErr result }
         ensures len { self.new.size ≡ self.old.size }
         ensures cause { HasCause self.old.write_faults self.new.write_faults result }
-        ensures read_faults { self.old.read_faults ≤ self.new.read_faults }
+        ensures read_faults { self.new.read_faults ≡ self.old.read_faults }
     {
         let ended = match &self.file {
             Some(file) => file.write_all_at(bytes, at),
@@ -224,7 +224,7 @@ impl Disk for FileDisk {
         ensures broken { IsTrue self.old.is_broken → IsErr result }
         ensures len { self.new.size ≡ self.old.size }
         ensures cause { HasCause self.old.write_faults self.new.write_faults result }
-        ensures read_faults { self.old.read_faults ≤ self.new.read_faults }
+        ensures read_faults { self.new.read_faults ≡ self.old.read_faults }
     {
         let ended = match &self.file {
             Some(file) => file.sync_data(),

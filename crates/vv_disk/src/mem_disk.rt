@@ -157,6 +157,7 @@ impl MemDisk {
         ensures after { self.new ≡ after_read self.old }
         ensures fails { is_err result ≡ fails_now self.old }
         ensures bytes { OnOk result (into.new ≡ bytes_at at (length into.old) (state_now self.old).content) }
+        ensures unread { OnErr result (into.new ≡ into.old) }
         ensures cause { HasCause self.old.read_faults self.new.read_faults result }
     {
         if self.plan.count_call() {
@@ -293,6 +294,7 @@ impl Disk for MemDisk {
         ensures fails { is_err result ≡ fails_now self.old }
 
         ensures bytes { OnOk result (into.new ≡ bytes_at at (length into.old) (state_now self.old).content) }
+        ensures unread { OnErr result (into.new ≡ into.old) }
         ensures len { length self.new.first ≡ length self.old.first }
         ensures content { Some (state_now self.new).content ≡ Some (state_now self.old).content }
 
@@ -321,7 +323,7 @@ impl Disk for MemDisk {
             (LeftSince self.new.first self.new.done) (IsLeft (state_now self.new)) }
 
         ensures cause { HasCause self.old.write_faults self.new.write_faults result }
-        ensures read_faults { self.old.read_faults ≤ self.new.read_faults }
+        ensures read_faults { self.new.read_faults ≡ self.old.read_faults }
     {
         self.write_bytes(at as usize, bytes)
     }
@@ -339,7 +341,7 @@ impl Disk for MemDisk {
             (LeftSince self.new.first self.new.done) (IsLeft (state_now self.new)) }
 
         ensures cause { HasCause self.old.write_faults self.new.write_faults result }
-        ensures read_faults { self.old.read_faults ≤ self.new.read_faults }
+        ensures read_faults { self.new.read_faults ≡ self.old.read_faults }
     {
         self.sync_bytes()
     }

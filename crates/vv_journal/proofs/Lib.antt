@@ -11,3 +11,4 @@ pub mod Switched
 pub mod Opened
 pub mod Replayed
 pub mod Callers
+pub mod Formatted

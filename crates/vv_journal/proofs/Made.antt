@@ -1,5 +1,5 @@
 -- What stands in an image that was made afresh, and in a half that was.
-use Rattle.std.proofs.Common.{◌≡◌, inl, inr, ℕ, ◌+◌, ◌-◌, ◌%◌, ◌≤◌, true, leb, List, [], ◌∷◌, length, get_or, Some, refl, sym, ap, ◌∙◌, subst, arith}
+use Rattle.std.proofs.Common.{◌≡◌, inl, inr, ℕ, ◌+◌, ◌-◌, ◌%◌, ◌≤◌, true, leb, List, [], ◌∷◌, length, get_or, Option, None, Some, IfSome, option_map, refl, sym, ap, ◌∙◌, subst, arith}
 use Rattle.std.proofs.lemmas.Bool.{and_from, or_left, le-leb, eq-eqb}
 use Rattle.std.proofs.lemmas.Bool.{cond-true}
 use Rattle.vv_units.specs.declared.geometry.Geometry.{Geometry}
@@ -44,14 +44,11 @@ second_area header half len tables image field fits bytes =
     (ap (λ (n : ℕ). bytes_at (half_at header.geometry half + 8) n image) again ∙ bytes)
     ∙ ap (λ (s : ℕ). Some (record { spelling = s; tables = tables })) (cond-true (leb second_spelling (second_spelling + len)) 2 1 (second_field len))
 
--- ---- a fresh image
+-- ---- a fresh image, but for the format's byte before that is set
 
 module _ (geometry : Geometry) (disk head field tables shut : List ℕ) where
-  abbrev pub closed : List ℕ
-  closed = overwritten disk 0 (0 ∷ [])
-
   abbrev pub headed : List ℕ
-  headed = overwritten closed 8 head
+  headed = overwritten disk 8 head
 
   abbrev pub selected : List ℕ
   selected = overwritten headed 512 (0 ∷ [])
@@ -73,8 +70,7 @@ module _ (geometry : Geometry) (disk head field tables shut : List ℕ) where
       → length field ≡ 8 → be_number field ≡ second_spelling + length tables → length shut ≡ 256 → ((i : ℕ) → get_or shut i 0 ≡ 0)
       → Holds (fresh_log geometry tables) made
   made_holds size fits head_size words version blocks pool map field_size number shut_size zeros =
-      let closed_long : length closed ≡ disk_len geometry = length-overwritten disk 0 (0 ∷ []) ∙ size in
-      let headed_long : length headed ≡ disk_len geometry = length-overwritten closed 8 head ∙ closed_long in
+      let headed_long : length headed ≡ disk_len geometry = length-overwritten disk 8 head ∙ size in
       let selected_long : length selected ≡ disk_len geometry = length-overwritten headed 512 (0 ∷ []) ∙ headed_long in
       let measured_long : length measured ≡ disk_len geometry = length-overwritten selected (half_at geometry 0) field ∙ selected_long in
       let tabled_long : length tabled ≡ disk_len geometry = length-overwritten measured (half_at geometry 0 + 8) tables ∙ measured_long in
@@ -89,7 +85,7 @@ module _ (geometry : Geometry) (disk head field tables shut : List ℕ) where
       ∙ apart_written measured (half_at geometry 0 + 8) (8 + i) m tables (inl (omega (arith, le)))
       ∙ apart_written selected (half_at geometry 0) (8 + i) m field (inl (omega (arith, le)))
       ∙ apart_written headed 512 (8 + i) m (0 ∷ []) (inl (omega (arith, le)))
-      ∙ part_written closed 8 i m head (omega (arith, closed_long, head_size)) (omega (arith, le, head_size)) in
+      ∙ part_written disk 8 i m head (omega (arith, size, head_size)) (omega (arith, le, head_size)) in
       let first : get_or made 0 0 ≡ 165 = byte_written gated 0 165 (omega (arith, gated_long)) in
       let formatted : is_formatted made ≡ true = and_from _ _ (le-leb _ _ (omega (arith, made_long))) (eq-eqb _ _ first) in
       let header = header_from made geometry 2 formatted
@@ -126,3 +122,28 @@ module _ (geometry : Geometry) (disk head field tables shut : List ℕ) where
         });
         kept = subst IsShutBehind (sym gates) (shut_behind shut zeros);
       }
+
+  -- and what is told of it
+  pub made_told : (told0 told1 told2 told3 : Option (List ℕ)) (start gates : ℕ) → start ≡ half_at geometry 0 → gates ≡ gates_at geometry 0
+      → told1 ≡ option_map (λ c. overwritten (overwritten c 8 head) 512 (0 ∷ [])) told0
+      → told2 ≡ option_map (λ c. overwritten (overwritten c start field) (start + 8) tables) told1
+      → told3 ≡ option_map (λ c. overwritten c gates shut) told2
+      → told0 ≡ Some disk → told3 ≡ Some gated
+  made_told told0 told1 told2 told3 start gates at_start at_gates headed_is measured_is gated_is is =
+      let one : told1 ≡ Some selected = headed_is ∙ ap (option_map (λ c. overwritten (overwritten c 8 head) 512 (0 ∷ []))) is in
+      let two : told2 ≡ Some tabled = measured_is ∙ ap (option_map (λ c. overwritten (overwritten c start field) (start + 8) tables)) one ∙ ap (λ (k : ℕ). Some (overwritten (overwritten selected k field) (k + 8) tables)) at_start in
+      gated_is ∙ ap (option_map (λ c. overwritten c gates shut)) two ∙ ap (λ (k : ℕ). Some (overwritten tabled k shut)) at_gates
+
+-- what is read, if anything is told, is a fresh image but for the format's byte
+pub told_some : (told0 told1 told2 told3 : Option (List ℕ)) (head field tables shut : List ℕ) (geometry : Geometry) (start gates size : ℕ) → ((d : List ℕ) → told0 ≡ Some d → length d ≡ size) → start ≡ half_at geometry 0 → gates ≡ gates_at geometry 0
+    → told1 ≡ option_map (λ c. overwritten (overwritten c 8 head) 512 (0 ∷ [])) told0
+    → told2 ≡ option_map (λ c. overwritten (overwritten c start field) (start + 8) tables) told1
+    → told3 ≡ option_map (λ c. overwritten c gates shut) told2
+    → ((d : List ℕ) → length d ≡ size → Holds (fresh_log geometry tables) (made geometry d head field tables shut))
+    → IfSome told3 (λ c. Holds (fresh_log geometry tables) (overwritten c 0 (165 ∷ [])))
+told_some None told1 told2 told3 head field tables shut geometry start gates size fits at_start at_gates one two three holds =
+    let none : told3 ≡ None = three ∙ ap (option_map (λ c. overwritten c gates shut)) (two ∙ ap (option_map (λ c. overwritten (overwritten c start field) (start + 8) tables)) one) in
+    subst (λ t. IfSome t (λ c. Holds (fresh_log geometry tables) (overwritten c 0 (165 ∷ [])))) (sym none) tt
+told_some (Some d) told1 told2 told3 head field tables shut geometry start gates size fits at_start at_gates one two three holds =
+    let is : told3 ≡ Some (gated geometry d head field tables shut) = made_told geometry d head field tables shut (Some d) told1 told2 told3 start gates at_start at_gates one two three refl in
+    subst (λ t. IfSome t (λ c. Holds (fresh_log geometry tables) (overwritten c 0 (165 ∷ [])))) (sym is) (holds d (fits d refl))

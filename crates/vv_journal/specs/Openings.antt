@@ -1,5 +1,5 @@
 -- What opening an image finds: the head of its log, or the first thing that is wrong. And what reading a slot finds.
-use Rattle.std.specs.Prelude.{◌≡◌, ◌≢◌, ℕ, ◌<◌, ◌+◌, ◌*◌, ◌≤◌, ◌==◌, ◌&&◌, ◌||◌, Bool, true, nat_le, List, length, slice_index, take, Option, Some, None, if◌then◌else◌}
+use Rattle.std.specs.Prelude.{◌≡◌, ◌≢◌, ℕ, ◌<◌, ◌+◌, ◌*◌, ◌≤◌, ◌==◌, ◌&&◌, ◌||◌, Bool, true, nat_le, List, length, slice_index, take, drop, Option, Some, None, Result, Ok, Err, if◌then◌else◌}
 use Rattle.vv_units.specs.Causes.{Rose}
 use Rattle.vv_units.specs.Sizes.{is_chunk_size}
 use Rattle.vv_units.specs.declared.damage.DiskFault.TheVariants.{Read, Write}
@@ -92,6 +92,13 @@ HasDiskCause reads_before reads_now writes_before writes_now (Damaged damage) = 
 HasDiskCause reads_before reads_now writes_before writes_now (Disk Read) = Rose reads_before reads_now
 HasDiskCause reads_before reads_now writes_before writes_now (Disk Write) = Rose writes_before writes_now
 
+-- this holds, unless the disk failed
+abbrev pub UnlessDiskFailed : {T : Type 0} → Result T OpenFault → Type 0 → Type 0
+UnlessDiskFailed (Ok opened) P = P
+UnlessDiskFailed (Err (NotFormatted found)) P = P
+UnlessDiskFailed (Err (Damaged damage)) P = P
+UnlessDiskFailed (Err (Disk fault)) P = Unit {0}
+
 -- ---- the head of a log
 
 -- The image has this head: the sizes of its header, the selected half, the spelling of its tables, and their length.
@@ -128,6 +135,12 @@ abbrev pub after_reading : SlotRead → JournalState → JournalState
 after_reading Closed journal = journal
 after_reading Bad journal = journal
 after_reading (Payload len) journal = record journal { records = journal.records + 1 }
+
+-- A slot without a payload leaves the room for one as it is, and a payload what stands behind it there.
+abbrev pub LeavesRest : SlotRead → List ℕ → List ℕ → Type 0
+LeavesRest Closed before now = now ≡ before
+LeavesRest Bad before now = now ≡ before
+LeavesRest (Payload len) before now = drop len now ≡ drop len before
 
 -- a payload is no longer than the room for it
 abbrev pub IsShort : SlotRead → Type 0

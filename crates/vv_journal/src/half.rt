@@ -1,5 +1,5 @@
 //! The parts of a half as bytes.
-ghost use Rattle.std.specs.Prelude.{◌≡◌, ◌<◌, ◌+◌, ℕ, length, slice_index};
+ghost use Rattle.std.specs.Prelude.{◌≡◌, ◌⊎◌, ◌<◌, ◌+◌, ℕ, length, slice_index};
 ghost use Rattle.vv_fields.specs.Fields.{be_number};
 ghost use Rattle.vv_journal.specs.Half.{second_spelling, spelling_in, length_in, is_area};
 
@@ -20,7 +20,8 @@ pub(crate) fn length_field(len: u64) -> [u8; 8]
 
 /// The spelling that a length field says.
 pub(crate) fn spelling_of(field: u64) -> u8
-    ensures { result ≡ spelling_in field }
+    ensures spelling { result ≡ spelling_in field }
+    ensures known { (result ≡ 1) ⊎ (result ≡ 2) }
 {
     if field >= SECOND_SPELLING { 2 } else { 1 }
 }

@@ -1,10 +1,10 @@
 //! Opening an image.
-ghost use Rattle.std.specs.Prelude.{◌≡◌, ◌⊎◌, ◌≤◌, ◌+◌, ◌↔◌, List, ℕ, Some, length, OnOk, IfOk, IfErr, IfSome};
+ghost use Rattle.std.specs.Prelude.{◌≡◌, ◌⊎◌, ◌<◌, ◌≤◌, ◌+◌, ◌↔◌, List, ℕ, Some, length, IfOk, IfErr, IfSome, MatchResult};
 ghost use Rattle.vv_units.specs.Sizes.{is_chunk_size};
 ghost use Rattle.vv_disk.specs.Images.{OnlyTold, LeavesOnly, EachImage};
-ghost use Rattle.vv_data.specs.Layout.{area_bytes, disk_len};
+ghost use Rattle.vv_data.specs.Layout.{area_bytes, disk_len, header_bytes};
 ghost use Rattle.vv_journal.specs.Half.{is_area};
-ghost use Rattle.vv_journal.specs.Openings.{open_fault, header_fault, is_known_version, is_pool_size, is_map_size, HasFields, HasHead, IsOfDisk, IsDamage, HasDiskCause, journal_at_first};
+ghost use Rattle.vv_journal.specs.Openings.{open_fault, header_fault, is_known_version, is_pool_size, is_map_size, HasFields, HasHead, IsOfDisk, IsDamage, HasDiskCause, UnlessDiskFailed, journal_at_first};
 
 use crate::half::{may_be_area, spelling_of, tables_len};
 use crate::layout::{HEADER_BYTES, SELECTOR_AT, half_start};
@@ -71,12 +71,19 @@ pub fn open_log<D: Disk>(disk: &mut D) -> Result<(Journal, LogHead), OpenFault>
     ensures head { IfOk result (λ opened. IfSome (D.content disk.new) (HasHead opened.1)) }
     ensures journal { IfOk result (λ opened. opened.0 ≡ journal_at_first opened.1) }
     ensures half { IfOk result (λ opened. opened.1.half ≤ 1) }
+    ensures spelling { IfOk result (λ opened. (opened.1.spelling ≡ 1) ⊎ (opened.1.spelling ≡ 2)) }
     ensures fits { IfOk result (λ opened. 8 + opened.1.area_len ≤ area_bytes opened.1.geometry) }
     ensures size { IfOk result (λ opened. D.size disk.new ≡ disk_len opened.1.geometry) }
-    ensures only { OnOk result (D.is_honest disk.old → OnlyTold (D.content disk.new) (D.is_image disk.new)) }
+
+    // Whatever was found, it was found after a sync.
+    ensures only { UnlessDiskFailed result (D.is_honest disk.old → OnlyTold (D.content disk.new) (D.is_image disk.new)) }
+    ensures short { D.size disk.old < header_bytes → MatchResult result (λ opened. ⊥) (λ fault. IsOfDisk fault ⊎ (fault ≡ OpenFault.NotFormatted (D.size disk.old))) }
 
     ensures fault { IfErr result (λ fault. IsOfDisk fault ⊎ IfSome (D.content disk.new) (λ c. open_fault c ≡ Some fault)) }
     ensures cause { IfErr result (HasDiskCause (D.read_faults disk.old) (D.read_faults disk.new) (D.write_faults disk.old) (D.write_faults disk.new)) }
+    // No fault is passed over.
+    ensures kept_reads { UnlessDiskFailed result (D.read_faults disk.new ≡ D.read_faults disk.old) }
+    ensures kept_writes { UnlessDiskFailed result (D.write_faults disk.new ≡ D.write_faults disk.old) }
 
     ensures len { D.size disk.new ≡ D.size disk.old }
     ensures content { D.content disk.new ≡ D.content disk.old }

@@ -4,7 +4,7 @@ ghost use Rattle.vv_units.specs.Causes.{HasCause};
 ghost use Rattle.vv_disk.specs.Images.{bytes_at, Elapses, LeavesOnly};
 ghost use Rattle.vv_data.specs.Layout.{area_bytes, disk_len};
 ghost use Rattle.vv_journal.specs.Half.{payload_limit, tables_at};
-ghost use Rattle.vv_journal.specs.Openings.{StandsNext, after_reading, IsShort};
+ghost use Rattle.vv_journal.specs.Openings.{StandsNext, after_reading, IsShort, LeavesRest};
 
 use crate::Journal;
 use crate::numbers::number_of_4;
@@ -71,6 +71,7 @@ impl Journal {
 
         ensures slot { IfOk result (λ read. IfSome (D.content disk.old) (StandsNext self.old into.new read)) }
         ensures counted { IfOk result (λ read. self.new ≡ after_reading read self.old) }
+        ensures rest { IfOk result (λ read. LeavesRest read into.old into.new) }
         ensures place { (self.new.geometry ≡ self.old.geometry) × (self.new.half ≡ self.old.half) }
         ensures short { IfOk result IsShort }
         ensures not_counted { OnErr result (self.new ≡ self.old) }

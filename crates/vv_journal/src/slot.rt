@@ -26,7 +26,7 @@ pub(crate) fn write_slot<D: Disk>(disk: &mut D, at: u64, payload: &[u8]) -> Resu
     ensures honesty { D.is_honest disk.new ↔ D.is_honest disk.old }
     ensures fault { IfErr result (λ fault. fault ≡ DiskFault.Write) }
     ensures cause { HasCause (D.write_faults disk.old) (D.write_faults disk.new) result }
-    ensures read_faults { D.read_faults disk.old ≤ D.read_faults disk.new }
+    ensures read_faults { D.read_faults disk.new ≡ D.read_faults disk.old }
 {
     put(disk, at, &slot_head(payload.len() as u32))?;
     put(disk, at + 8, payload)?;

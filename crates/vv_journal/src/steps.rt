@@ -2,7 +2,7 @@
 ghost use Rattle.std.specs.Prelude.{◌≡◌, ◌≤◌, ◌+◌, ◌↔◌, List, ℕ, length, option_map, OnOk, IfErr, IfSome};
 ghost use Rattle.vv_units.specs.Causes.{HasCause};
 ghost use Rattle.vv_disk.specs.Images.{bytes_at, overwritten, ToldWithin, OnlyTold, LeavesOnly, EachImage, Elapses};
-ghost use Rattle.vv_journal.specs.Calls.{ChangedWithin};
+ghost use Rattle.vv_journal.specs.Calls.{ChangedWithin, LiesIn};
 
 use vv_disk::Disk;
 use vv_units::DiskFault;
@@ -21,7 +21,7 @@ pub(crate) fn put<D: Disk>(disk: &mut D, at: u64, bytes: &[u8]) -> Result<(), Di
     ensures honesty { D.is_honest disk.new ↔ D.is_honest disk.old }
     ensures fault { IfErr result (λ fault. fault ≡ DiskFault.Write) }
     ensures cause { HasCause (D.write_faults disk.old) (D.write_faults disk.new) result }
-    ensures read_faults { D.read_faults disk.old ≤ D.read_faults disk.new }
+    ensures read_faults { D.read_faults disk.new ≡ D.read_faults disk.old }
 {
     match disk.write(at, bytes) {
         Ok(()) => Ok(()),
@@ -40,7 +40,7 @@ pub(crate) fn settle<D: Disk>(disk: &mut D) -> Result<(), DiskFault>
     ensures honesty { D.is_honest disk.new ↔ D.is_honest disk.old }
     ensures fault { IfErr result (λ fault. fault ≡ DiskFault.Write) }
     ensures cause { HasCause (D.write_faults disk.old) (D.write_faults disk.new) result }
-    ensures read_faults { D.read_faults disk.old ≤ D.read_faults disk.new }
+    ensures read_faults { D.read_faults disk.new ≡ D.read_faults disk.old }
 {
     match disk.sync() {
         Ok(()) => Ok(()),
@@ -62,10 +62,37 @@ pub(crate) fn put_settled<D: Disk>(disk: &mut D, at: u64, bytes: &[u8]) -> Resul
     ensures honesty { D.is_honest disk.new ↔ D.is_honest disk.old }
     ensures fault { IfErr result (λ fault. fault ≡ DiskFault.Write) }
     ensures cause { HasCause (D.write_faults disk.old) (D.write_faults disk.new) result }
-    ensures read_faults { D.read_faults disk.old ≤ D.read_faults disk.new }
+    ensures read_faults { D.read_faults disk.new ≡ D.read_faults disk.old }
 {
     put(disk, at, bytes)?;
     settle(disk)?;
+    Ok(())
+}
+
+/// Writes bytes at two places, the one after the other. What holds of a range with both is said of every such range.
+pub(crate) fn put_both<D: Disk>(
+    disk: &mut D,
+    first_at: u64,
+    first: &[u8],
+    second_at: u64,
+    second: &[u8],
+) -> Result<(), DiskFault>
+    requires first { first_at + length first.now ≤ D.size disk.old }
+    requires second { second_at + length second.now ≤ D.size disk.old }
+
+    ensures ok { OnOk result (D.content disk.new ≡ option_map (λ c. overwritten (overwritten c first_at first.now) second_at second.now) (D.content disk.old)) }
+    ensures told { (at n : ℕ) → LiesIn first_at (length first.now) at n → LiesIn second_at (length second.now) at n → ToldWithin at n (D.content disk.old) (D.content disk.new) }
+    ensures any_moment { D.is_honest disk.old → (at n : ℕ) → LiesIn first_at (length first.now) at n → LiesIn second_at (length second.now) at n
+        → LeavesOnly D.moment D.left_since disk.old disk.new (ChangedWithin at n (D.is_image disk.old)) }
+
+    ensures len { D.size disk.new ≡ D.size disk.old }
+    ensures honesty { D.is_honest disk.new ↔ D.is_honest disk.old }
+    ensures fault { IfErr result (λ fault. fault ≡ DiskFault.Write) }
+    ensures cause { HasCause (D.write_faults disk.old) (D.write_faults disk.new) result }
+    ensures read_faults { D.read_faults disk.new ≡ D.read_faults disk.old }
+{
+    put(disk, first_at, first)?;
+    put(disk, second_at, second)?;
     Ok(())
 }
 

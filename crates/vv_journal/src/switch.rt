@@ -66,7 +66,7 @@ impl Journal {
         ensures honesty { D.is_honest disk.new ↔ D.is_honest disk.old }
         ensures fault { IfErr result (λ fault. fault ≡ DiskFault.Write) }
         ensures cause { HasCause (D.write_faults disk.old) (D.write_faults disk.new) result }
-        ensures read_faults { D.read_faults disk.old ≤ D.read_faults disk.new }
+        ensures read_faults { D.read_faults disk.new ≡ D.read_faults disk.old }
     {
         let switching = self.new_switch(len);
         match put(disk, switching.start(), &length_field(len)) {
@@ -123,7 +123,7 @@ impl Journal {
         ensures honesty { D.is_honest disk.new ↔ D.is_honest disk.old }
         ensures fault { IfErr result (λ fault. fault ≡ DiskFault.Write) }
         ensures cause { HasCause (D.write_faults disk.old) (D.write_faults disk.new) result }
-        ensures read_faults { D.read_faults disk.old ≤ D.read_faults disk.new }
+        ensures read_faults { D.read_faults disk.new ≡ D.read_faults disk.old }
     {
         let (geometry, half) = switching.target();
         put_settled(disk, gates_start(geometry, half), &shut_gates())?;
@@ -158,7 +158,7 @@ impl Switching {
         ensures honesty { D.is_honest disk.new ↔ D.is_honest disk.old }
         ensures fault { IfErr result (λ fault. fault ≡ DiskFault.Write) }
         ensures cause { HasCause (D.write_faults disk.old) (D.write_faults disk.new) result }
-        ensures read_faults { D.read_faults disk.old ≤ D.read_faults disk.new }
+        ensures read_faults { D.read_faults disk.new ≡ D.read_faults disk.old }
     {
         put(disk, self.next(), piece)?;
         self.count(piece.len() as u64);

@@ -48,6 +48,17 @@ returns-then-len-needed-clause-fault g c =
     (λ d long is. wrong_length header bytes d c.disk_len-needed.result c.len-len.result is (omega (arith, long, c.len-len.ensures, c.if-len-lt-HEADER_BYTES.false)) c.if-bytes.false (fields_give c.in-Ok.fields bytes d is (omega (arith, long, c.len-len.ensures, c.if-len-lt-HEADER_BYTES.false)) c.if-bytes.false c.in-Ok.ensures.fields)
     c.disk_len-needed.ensures (long ∙ sym c.len-len.ensures) c.if-len-needed.true ∙ ap (λ (f : OpenFault). Some f) (sym c.damaged.ensures))))
 
+pub returns-then-len-needed-clause-only : goal.returns-then-len-needed-clause-only
+returns-then-len-needed-clause-only g c =
+    rw c.damaged.ensures
+    (λ honest image left. c.get.ensures.content ∙ c.in_ok-settle.ensures.ok honest image ((c.get.ensures.images image).0 left))
+
+pub returns-then-not-may_be_area-clause-only : goal.returns-then-not-may_be_area-clause-only
+returns-then-not-may_be_area-clause-only g c =
+    rw c.damaged-then-not-may_be_area.ensures
+    (λ honest image left. c.get-3.ensures.content ∙ c.get-2.ensures.content ∙ c.get.ensures.content
+    ∙ c.in_ok-settle.ensures.ok honest image ((c.get.ensures.images image).0 ((c.get-2.ensures.images image).0 ((c.get-3.ensures.images image).0 left))))
+
 pub returns-then-not-may_be_area-clause-fault : goal.returns-then-not-may_be_area-clause-fault
 returns-then-not-may_be_area-clause-fault g c =
     let told = g.D.Disk.content c.settle.new.disk in
@@ -88,4 +99,4 @@ returns-clause-head g c =
     let head : LogHead = record { geometry = c.in-Ok.fields.geometry; half = half; spelling = c.spelling_of.result; area_len = c.tables_len.result } in
     subst (λ t. IfSome t (HasHead head)) (sym there) (told_three_sized told size P S M (HasHead head) (λ d is. g.met.D.Disk.content_fits c.settle.new.disk d is) c.in_ok-get.ensures.bytes selector_read measure_read
     (λ d long is select measured. head_stands head c.in-Ok.fields.version d c.number_of_8-field.result (fields_give c.in-Ok.fields bytes d is (omega (arith, long, c.len-len.ensures, c.if-len-lt-HEADER_BYTES.false)) c.if-bytes.false c.in-Ok.ensures.fields) (ap (λ (b : ℕ). b % 2) (byte_read 512 selector d select)) (long ∙ sym c.len-len.ensures ∙ c.if-len-needed.false ∙ c.disk_len-needed.ensures) (ap (λ (k : ℕ). number_at 8 k d) (sym c.half_start.ensures.start) ∙ number_read start measure d measured ∙ sym c.number_of_8-field.ensures)
-    (sym c.may_be_area.ensures ∙ c.if-not-may_be_area.false) (sym c.spelling_of.ensures) (sym c.tables_len.ensures.len)))
+    (sym c.may_be_area.ensures ∙ c.if-not-may_be_area.false) (sym c.spelling_of.ensures.spelling) (sym c.tables_len.ensures.len)))

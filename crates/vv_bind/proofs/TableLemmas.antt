@@ -4,15 +4,15 @@ use Rattle.std.specs.Prelude.{Option, Some, None, IfSome, is_some, filter, slice
 use Rattle.std.specs.List.{find, list_all, position}
 use Rattle.std.proofs.lemmas.Bool.Decides.{nat_tests}
 use Rattle.vv_units.specs.declared.numbers.EndpointId.{EndpointId}
-use Rattle.vv_flat.specs.Lists.{all_rise, all_rise_from, if_found, first_changed, put_before, first_removed}
+use Rattle.vv_flat.specs.Lists.{all_different, all_rise, all_rise_from, if_found, first_changed, put_before, first_removed}
 use Rattle.vv_flat.specs.State.{Context, Address, Binding}
 use Rattle.vv_flat.specs.Form.{all_below, bindings_rise}
 use Rattle.vv_flat.specs.Bindings.{is_address, is_below, is_binding_of, is_of_host, context_of, was_set, with_context, endpoints_of, binding_at, binding_of, free_secondary, new_address, with_binding, count_left, without_binding, without_host}
 use Rattle.vv_flat.proofs.Shares.{and_left, and_right, and_both}
-use Rattle.vv_flat.proofs.Known.{all-put, all-changed}
+use Rattle.vv_flat.proofs.Known.{all-put, all-changed, all-found, all-removed, all-filter}
 use Rattle.vv_bind.specs.declared.fault.BindFault.{BindFault}
 use Rattle.vv_bind.specs.declared.fault.BindFault.TheVariants.{NoEndpoint, TooManyCount, TooManyBindings}
-use Rattle.vv_bind.specs.Table.{BindState, IsHost, IsKept, numbers, address, bind_fault, with_one_more, context_below, binding_below, has_host_number}
+use Rattle.vv_bind.specs.Table.{BindState, IsHost, IsKept, numbers, address, bind_fault, with_one_more, context_below, binding_below, is_host_number, has_host_number, has_endpoints, are_endpoints, is_of_a_host}
 use Rattle.vv_flat.proofs.Positions.{length-put_before, found_is, found_passes, not_found, changed_step, is_some_at}
 use Rattle.vv_flat.proofs.KeepLists.{rise-removed, rise-put, rise-changed, rise-filter}
 use Rattle.vv_bind.proofs.RowLemmas.{binding_through, address_total}
@@ -43,6 +43,9 @@ module _ {A : Type 0} (p : A → Bool) where
   filter-le [] = omega arith
   filter-le (x ∷ xs) = few_left x xs (p x) (filter-le xs)
 
+number_host : (n : ℕ) → 1 ≤ n → n ≤ 64 → (nat_le 1 n && nat_le n 64) ≡ true
+number_host n l h = grind (arith, nat_tests)
+
 -- ---- bindings
 apart_head : (x y : Binding) (ys : List Binding) (b : Bool) → is_address y.address x.address ≡ b
     → cond b (Some y) (find (λ (z : Binding). is_address z.address x.address) ys) ≡ None
@@ -59,14 +62,16 @@ all_apart x [] h = refl
 all_apart x (y ∷ ys) h = apart_head x y ys (is_address y.address x.address) refl h (all_apart x ys)
 
 pub kept-put : (cs : List Context) (bs next : List Binding) (cr br more : ℕ) (x : Binding) → IsKept cs bs cr br
-    → binding_at bs x.address ≡ None → length bs < 1024 → next ≡ with_one_more bs x → br ≤ more → IsKept cs next cr more
-kept-put cs bs next cr br more x kept free room is larger = record {
+    → IsHost x.address.host → binding_at bs x.address ≡ None → length bs < 1024 → next ≡ with_one_more bs x → br ≤ more → IsKept cs next cr more
+kept-put cs bs next cr br more x kept host free room is larger = record {
   few = rw is (let l = length-put_before (λ (b : Binding). is_below x.address b.address) x bs in omega arith);
   fits = let f = kept.fits in omega arith;
   bindings_rise = rw is (rise-put binding_below x bs (all_apart x bs free) kept.bindings_rise);
   contexts_fit = kept.contexts_fit;
   contexts_rise = kept.contexts_rise;
   hosts = kept.hosts;
+  lists = kept.lists;
+  bound_hosts = rw is (all-put is_of_a_host (λ (b : Binding). is_below x.address b.address) x bs (number_host x.address.host host.from_one host.within) kept.bound_hosts);
 }
 
 pub kept-changed : (cs : List Context) (bs next : List Binding) (cr br more : ℕ) (p : Binding → Bool) (count : Binding → ℕ) → IsKept cs bs cr br
@@ -78,6 +83,8 @@ kept-changed cs bs next cr br more p count kept is same = record {
   contexts_fit = kept.contexts_fit;
   contexts_rise = kept.contexts_rise;
   hosts = kept.hosts;
+  lists = kept.lists;
+  bound_hosts = rw is (all-changed is_of_a_host p (λ (b : Binding). record b { count = count b }) bs kept.bound_hosts (λ b f e. e));
 }
 
 kept-removed : (cs : List Context) (bs next : List Binding) (cr br more : ℕ) (p : Binding → Bool) → IsKept cs bs cr br
@@ -89,6 +96,8 @@ kept-removed cs bs next cr br more p kept is same = record {
   contexts_fit = kept.contexts_fit;
   contexts_rise = kept.contexts_rise;
   hosts = kept.hosts;
+  lists = kept.lists;
+  bound_hosts = rw is (all-removed is_of_a_host p bs kept.bound_hosts);
 }
 
 without_case : (cs : List Context) (bs next : List Binding) (cr br more : ℕ) (a : Address) (b : Bool) → IsKept cs bs cr br
@@ -111,6 +120,8 @@ kept-out cs bs next cr br more host kept is same = record {
   contexts_fit = kept.contexts_fit;
   contexts_rise = kept.contexts_rise;
   hosts = kept.hosts;
+  lists = kept.lists;
+  bound_hosts = rw is (all-filter is_of_a_host (λ (b : Binding). not (is_of_host host b)) bs kept.bound_hosts);
 }
 
 -- without a binding at the address nothing is taken out
@@ -152,9 +163,6 @@ contexts_apart x (y ∷ ys) h = context_head x y ys (y.host == x.host) refl h (c
 host_number : (n : ℕ) → (nat_le 1 n && nat_le n 64) ≡ true → (1 ≤ n) × (n ≤ 64)
 host_number n h = grind (arith, nat_tests)
 
-number_host : (n : ℕ) → 1 ≤ n → n ≤ 64 → (nat_le 1 n && nat_le n 64) ≡ true
-number_host n l h = grind (arith, nat_tests)
-
 below_is : (m n : ℕ) → nat_lt m n ≡ true → m < n
 below_is m n h = grind (arith, nat_tests)
 
@@ -195,29 +203,33 @@ context_room cs bs cr br x kept host unset =
     let room = kept.contexts_fit in
     omega arith
 
-context_case : (cs next : List Context) (bs : List Binding) (cr br more : ℕ) (x : Context) (b : Bool) → was_set cs x.host ≡ b → IsKept cs bs cr br → IsHost x.host
+context_case : (cs next : List Context) (bs : List Binding) (cr br more : ℕ) (x : Context) (b : Bool) → was_set cs x.host ≡ b → IsKept cs bs cr br → IsHost x.host → has_endpoints x ≡ true
     → next ≡ cond b (first_changed (λ (c : Context). c.host == x.host) (λ c. record c { endpoints = x.endpoints }) cs) (put_before (context_below x) x cs)
     → cr ≤ more → IsKept next bs more br
-context_case cs next bs cr br more x true set kept host is larger = record {
+context_case cs next bs cr br more x true set kept host listed is larger = record {
   few = kept.few;
   fits = kept.fits;
   bindings_rise = kept.bindings_rise;
   contexts_fit = let f = kept.contexts_fit in omega arith;
   contexts_rise = rw is (rise-changed context_below (λ (c : Context). record c { endpoints = x.endpoints }) (λ y z. refl) (λ y z. refl) (λ (c : Context). c.host == x.host) cs kept.contexts_rise);
   hosts = rw is (all-changed has_host_number (λ (c : Context). c.host == x.host) (λ (c : Context). record c { endpoints = x.endpoints }) cs kept.hosts (λ y f e. e));
+  lists = rw is (all-changed has_endpoints (λ (c : Context). c.host == x.host) (λ (c : Context). record c { endpoints = x.endpoints }) cs kept.lists (λ y f e. listed));
+  bound_hosts = kept.bound_hosts;
 }
-context_case cs next bs cr br more x false set kept host is larger = record {
+context_case cs next bs cr br more x false set kept host listed is larger = record {
   few = kept.few;
   fits = kept.fits;
   bindings_rise = kept.bindings_rise;
   contexts_fit = let f = kept.contexts_fit in omega arith;
   contexts_rise = rw is ((new_hosts cs bs cr br x kept host set).0);
   hosts = rw is ((new_hosts cs bs cr br x kept host set).1);
+  lists = rw is (all-put has_endpoints (context_below x) x cs listed kept.lists);
+  bound_hosts = kept.bound_hosts;
 }
 
-pub kept-context : (cs next : List Context) (bs : List Binding) (cr br more : ℕ) (x : Context) → IsKept cs bs cr br → IsHost x.host
+pub kept-context : (cs next : List Context) (bs : List Binding) (cr br more : ℕ) (x : Context) → IsKept cs bs cr br → IsHost x.host → has_endpoints x ≡ true
     → next ≡ with_context cs x.host x.endpoints → cr ≤ more → IsKept next bs more br
-kept-context cs next bs cr br more x kept host is larger = context_case cs next bs cr br more x (was_set cs x.host) refl kept host is larger
+kept-context cs next bs cr br more x kept host listed is larger = context_case cs next bs cr br more x (was_set cs x.host) refl kept host listed is larger
 
 -- the rows of contexts after a set
 host_same : (m n : ℕ) → (m == n) ≡ true → m ≡ n
@@ -372,3 +384,33 @@ rise_from_is b (c ∷ bs) = ap (λ (t : Bool). is_below b.address c.address && t
 pub rise_is : (bs : List Binding) → all_rise binding_below bs ≡ bindings_rise bs
 rise_is [] = refl
 rise_is (b ∷ bs) = rise_from_is b bs
+
+-- ---- what the table tells of its contexts and bindings
+
+listed_few : (n : ℕ) (b c : Bool) → (nat_le n 8 && b && c) ≡ true → (n ≤ 8) × (b ≡ true) × (c ≡ true)
+listed_few n b c h =
+    let two = and_left (nat_le n 8 && b) c h in
+    (few_is n (and_left (nat_le n 8) b two), and_right (nat_le n 8) b two, and_right (nat_le n 8 && b) c h)
+  where
+    few_is : (n : ℕ) → nat_le n 8 ≡ true → n ≤ 8
+    few_is n h = grind (arith, nat_tests)
+
+-- what holds of each list that was set, and of the first endpoint alone, holds of a host's endpoints
+endpoints_have : (cs : List Context) (host : ℕ) (r : Option Context) → context_of cs host ≡ r → list_all has_endpoints cs ≡ true → are_endpoints (if_found r (λ (c : Context). c.endpoints) (1 ∷ [])) ≡ true
+endpoints_have cs host None is all = refl
+endpoints_have cs host (Some c) is all = all-found has_endpoints (λ (d : Context). d.host == host) c cs all is
+
+-- a host has at most 8 endpoints, all different, and none is 0
+pub endpoints_told : (cs : List Context) (host : ℕ) → list_all has_endpoints cs ≡ true → are_endpoints (endpoints_of cs host) ≡ true
+endpoints_told cs host all = endpoints_have cs host (context_of cs host) refl all
+
+pub listed_parts : (endpoints : List ℕ) → are_endpoints endpoints ≡ true → (length endpoints ≤ 8) × (all_different endpoints ≡ true) × (list_all (λ e. nat_lt 0 e) endpoints ≡ true)
+listed_parts endpoints h = listed_few (length endpoints) (all_different endpoints) (list_all (λ e. nat_lt 0 e) endpoints) h
+
+pub listed_from : (endpoints : List ℕ) → length endpoints ≤ 8 → all_different endpoints ≡ true → list_all (λ e. nat_lt 0 e) endpoints ≡ true → are_endpoints endpoints ≡ true
+listed_from endpoints few different not_zero =
+    and_both (nat_le (length endpoints) 8 && all_different endpoints) (list_all (λ e. nat_lt 0 e) endpoints)
+    (and_both (nat_le (length endpoints) 8) (all_different endpoints) (few_test (length endpoints) few) different) not_zero
+  where
+    few_test : (n : ℕ) → n ≤ 8 → nat_le n 8 ≡ true
+    few_test n h = grind (arith, nat_tests)

@@ -3,7 +3,7 @@
 use Rattle.std.specs.Prelude.{ℕ, ◌≤◌, ◌==◌, ◌&&◌, Bool, IsTrue, List, length, map, Option, Some, None, nat_le, nat_lt, if◌then◌else◌}
 use Rattle.std.specs.List.{list_all}
 use Rattle.vv_units.specs.declared.numbers.EndpointId.{EndpointId}
-use Rattle.vv_flat.specs.Lists.{if_found, put_before, all_rise}
+use Rattle.vv_flat.specs.Lists.{if_found, put_before, all_different, all_rise}
 use Rattle.vv_flat.specs.State.{Context, Address, Binding}
 use Rattle.vv_flat.specs.Bindings.{endpoints_of, binding_of, is_below}
 use Rattle.vv_bind.specs.declared.fault.BindFault.{BindFault}
@@ -45,10 +45,24 @@ context_below c d = nat_lt c.host d.host
 abbrev pub binding_below : Binding → Binding → Bool
 binding_below b c = is_below b.address c.address
 
-abbrev pub has_host_number : Context → Bool
-has_host_number c = nat_le 1 c.host && nat_le c.host 64
+abbrev pub is_host_number : ℕ → Bool
+is_host_number host = nat_le 1 host && nat_le host 64
 
--- What a table keeps: few bindings, both lists in order, the hosts from 1 to 64, and room for all.
+abbrev pub has_host_number : Context → Bool
+has_host_number c = is_host_number c.host
+
+-- at most 8 endpoints, all different, and none is 0
+abbrev pub are_endpoints : List ℕ → Bool
+are_endpoints endpoints = nat_le (length endpoints) 8 && all_different endpoints && list_all (λ e. nat_lt 0 e) endpoints
+
+abbrev pub has_endpoints : Context → Bool
+has_endpoints c = are_endpoints c.endpoints
+
+abbrev pub is_of_a_host : Binding → Bool
+is_of_a_host b = is_host_number b.address.host
+
+-- What a table keeps: few bindings, both lists in order, the hosts from 1 to 64, endpoints as a host may have them, and
+-- room for all.
 pub record IsKept (contexts : List Context) (bindings : List Binding) (context_room binding_room : ℕ) : Type 0 where
   pub few : length bindings ≤ 1024
   pub fits : 1024 ≤ binding_room
@@ -56,3 +70,5 @@ pub record IsKept (contexts : List Context) (bindings : List Binding) (context_r
   pub contexts_fit : 64 ≤ context_room
   pub contexts_rise : IsTrue (all_rise context_below contexts)
   pub hosts : IsTrue (list_all has_host_number contexts)
+  pub lists : IsTrue (list_all has_endpoints contexts)
+  pub bound_hosts : IsTrue (list_all is_of_a_host bindings)

@@ -4,7 +4,7 @@ ghost use Rattle.std.specs.List.{list_any, list_all};
 ghost use Rattle.vv_flat.specs.Lists.{all_different};
 ghost use Rattle.vv_flat.specs.Form.{bindings_rise};
 ghost use Rattle.vv_flat.specs.Bindings.{endpoints_of, was_set, with_context, keeps_bindings, binding_at, binding_of, is_bound, bound_address, with_binding, without_binding, without_host, host_bindings};
-ghost use Rattle.vv_bind.specs.Table.{IsHost, address, numbers, bind_fault, with_one_more};
+ghost use Rattle.vv_bind.specs.Table.{IsHost, address, numbers, bind_fault, with_one_more, is_of_a_host};
 
 use crate::binding::Binding;
 use crate::context::HostContext;
@@ -48,7 +48,10 @@ impl BindTable {
     /// The endpoints that a host may bind at: those that were set, and else endpoint 1 alone.
     pub fn endpoints(&self, host: HostId) -> &[EndpointId]
         requires { IsHost host.0 }
-        ensures { numbers result.now ≡ endpoints_of self.now.contexts host.0 }
+        ensures endpoints { numbers result.now ≡ endpoints_of self.now.contexts host.0 }
+        ensures few { length result.now ≤ 8 }
+        ensures different { IsTrue (all_different (numbers result.now)) }
+        ensures not_zero { IsTrue (list_all (λ e. nat_lt 0 e) (numbers result.now)) }
     {
         rows::endpoints_in(&self.contexts, host)
     }
@@ -170,6 +173,8 @@ impl BindTable {
     pub fn at(&self, i: u32) -> Option<&Binding>
         ensures item { option_copied result ≡ slice_get self.now.bindings i }
         ensures rising { IsTrue (bindings_rise self.now.bindings) }
+        ensures few { length self.now.bindings ≤ 1024 }
+        ensures hosts { IsTrue (list_all is_of_a_host self.now.bindings) }
     {
         self.bindings.get(i as usize)
     }

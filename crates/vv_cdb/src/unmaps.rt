@@ -58,7 +58,8 @@ impl Unmaps {
 
     /// How many ranges there are.
     pub fn len(&self) -> u32
-        ensures { result ≡ length self.now }
+        ensures len { result ≡ length self.now }
+        ensures few { length self.now ≤ 64 }
     {
         self.ranges[..self.count].len() as u32
     }

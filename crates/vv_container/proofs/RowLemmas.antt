@@ -8,8 +8,9 @@ use Rattle.std.proofs.lemmas.List.Folds.{list_all-append}
 use Rattle.vv_flat.specs.Lists.{put_before, all_rising}
 use Rattle.vv_flat.proofs.Shares.{and_both, list_all-follows}
 use Rattle.vv_flat.proofs.Steps.{find-passes}
+use Rattle.vv_flat.proofs.Known.{all-changed}
 use Rattle.vv_container.specs.declared.container.Container.{Container as GivenContainer}
-use Rattle.vv_container.specs.Table.{ChargedContainer, numbered, is_numbered, is_above_all, row_of, container_of, with_charge, IsKept}
+use Rattle.vv_container.specs.Table.{ChargedContainer, numbered, is_numbered, is_above_all, row_of, container_of, with_charge, has_forms, IsKept}
 use Rattle.vv_flat.proofs.RisingRows.{rising-push, keys-changed, length-changed, put-last}
 
 pub place_in : {A : Type 0} (p : A → Bool) (xs lent : List A) (r : Option ℕ) → lent ≡ xs → r ≡ position p lent → position p xs ≡ r
@@ -23,11 +24,12 @@ container_is rows n row k found is =
     ap (λ m. Some (numbered m k)) (sym same) ∙ ap (λ c. Some c) is ∙ sym (ap (λ o. option_map (λ (r : ChargedContainer). r.container) o) found)
 
 pub kept-push : (rows next : List ChargedContainer) (room more : ℕ) (row : ChargedContainer) → IsKept rows room → length rows < 32
-    → is_above_all row.container.number rows ≡ true → next ≡ rows ++ row ∷ [] → room ≤ more → IsKept next more
-kept-push rows next room more row kept few above is larger = record {
+    → is_above_all row.container.number rows ≡ true → has_forms row ≡ true → next ≡ rows ++ row ∷ [] → room ≤ more → IsKept next more
+kept-push rows next room more row kept few above forms is larger = record {
   few = rw is (let l = length-append rows (row ∷ []) in omega arith);
   fits = let f = kept.fits in omega arith;
   rise = rw is (rising-push (λ (r : ChargedContainer). r.container.number) row rows above kept.rise);
+  forms = rw is (list_all-append has_forms rows (row ∷ []) ∙ and_both (list_all has_forms rows) (has_forms row && true) kept.forms (and_both (has_forms row) true forms refl));
 }
 
 pub kept-charged : (rows next : List ChargedContainer) (room more n charge : ℕ) → IsKept rows room
@@ -36,6 +38,7 @@ kept-charged rows next room more n charge kept is same = record {
   few = rw is (let l = length-changed (is_numbered n) (λ (r : ChargedContainer). record r { charged = charge }) rows in let f = kept.few in omega arith);
   fits = let f = kept.fits in omega arith;
   rise = rw is (ap all_rising (keys-changed (λ (r : ChargedContainer). r.container.number) (is_numbered n) (λ (r : ChargedContainer). record r { charged = charge }) (λ r e. refl) rows) ∙ kept.rise);
+  forms = rw is (all-changed has_forms (is_numbered n) (λ (r : ChargedContainer). record r { charged = charge }) rows kept.forms (λ r f e. e));
 }
 
 not_below : (m n : ℕ) → nat_lt m n ≡ true → not (nat_lt n m) ≡ true

@@ -6,6 +6,7 @@ use Rattle.vv_units.specs.declared.field.TooMany.{TooMany}
 use Rattle.vv_units.specs.declared.field.Field.TheVariants.{Container as in_container}
 use Rattle.vv_flat.specs.Lists.{if_found, first_changed, all_rising}
 use Rattle.vv_flat.specs.State.{Container}
+use Rattle.vv_container.specs.Forms.{have_forms}
 use Rattle.vv_container.specs.declared.container.Container.{Container as GivenContainer}
 use Rattle.vv_container.specs.declared.container.OverQuota.{OverQuota}
 
@@ -56,8 +57,12 @@ refusal rows n asked = if_found (row_of rows n) (λ r. over_quota r asked) None
 abbrev pub full : TooMany
 full = record { name = in_container; limit = 32 }
 
--- What a table keeps: few containers, in order, and room for all.
+abbrev pub has_forms : ChargedContainer → Bool
+has_forms r = have_forms r.container.quota r.container.offers
+
+-- What a table keeps: few containers, in order, each with a quota and offers that can be spelled, and room for all.
 pub record IsKept (rows : List ChargedContainer) (room : ℕ) : Type 0 where
   pub few : length rows ≤ 32
   pub fits : 32 ≤ room
   pub rise : IsTrue (all_rising (numbers rows))
+  pub forms : IsTrue (list_all has_forms rows)

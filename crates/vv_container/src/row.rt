@@ -1,6 +1,6 @@
 //! One row of the table.
-ghost use Rattle.std.specs.Prelude.{◌≡◌, ◌+◌, nat_lt, None, Some, MatchResult};
-ghost use Rattle.vv_container.specs.Table.{numbered, is_numbered, over_quota};
+ghost use Rattle.std.specs.Prelude.{◌≡◌, ◌+◌, nat_lt, None, Some, IsTrue, MatchResult};
+ghost use Rattle.vv_container.specs.Table.{numbered, is_numbered, over_quota, has_forms};
 
 use crate::container::{Container, OverQuota};
 use std::marker::Model;
@@ -24,7 +24,8 @@ impl Model for Row {
 
 impl Row {
     pub(crate) fn of(id: ContainerId, container: Container) -> Row
-        ensures { result ≡ record { container = numbered id.0 container; charged = 0 } }
+        ensures row { result ≡ record { container = numbered id.0 container; charged = 0 } }
+        ensures forms { IsTrue (has_forms result) }
     {
         Row {
             id,

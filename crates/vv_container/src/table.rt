@@ -1,7 +1,8 @@
 //! The table.
 ghost use Rattle.std.specs.Prelude.{◌≡◌, ◌<◌, ◌≤◌, ◌++◌, ◌∷◌, [], length, slice_get, IsTrue, IsSome, None, Some, IfOk, IfErr, MatchResult, option_map, option_copied};
+ghost use Rattle.std.specs.List.{list_all};
 ghost use Rattle.vv_flat.specs.Lists.{all_rising};
-ghost use Rattle.vv_container.specs.Table.{numbered, numbers, is_above_all, row_of, container_of, charge_of, with_charge, refusal, full};
+ghost use Rattle.vv_container.specs.Table.{numbered, numbers, is_above_all, row_of, container_of, charge_of, with_charge, refusal, full, has_forms};
 
 use crate::container::{Container, OverQuota};
 use crate::row::Row;
@@ -76,6 +77,7 @@ impl ContainerTable {
         ensures item { option_map (λ id. id.0) result ≡ slice_get (numbers self.now) i }
         ensures rising { IsTrue (all_rising (numbers self.now)) }
         ensures few { length self.now ≤ 32 }
+        ensures forms { IsTrue (list_all has_forms self.now) }
     {
         match self.rows.get(i as usize) {
             Some(row) => Some(row.id()),

@@ -1,5 +1,5 @@
 //! Each call once.
-ghost use Rattle.std.specs.Prelude.{◌≡◌};
+ghost use Rattle.std.specs.Prelude.{◌≡◌, ◌<◌, ◌^◌};
 ghost use Rattle.vv_container.specs.Table.{charge_of};
 
 use crate::{Container, ContainerTable, OverQuota};
@@ -9,6 +9,7 @@ use vv_units::{ContainerId, Field, OfferList, TooMany};
 
 /// A container that offers nothing.
 fn with_quota(alloc: Global, quota: u64) -> Container
+    requires { quota < 2 ^ 32 }
     ensures { result.quota ≡ quota }
 {
     Container {

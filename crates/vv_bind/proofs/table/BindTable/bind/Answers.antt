@@ -3,7 +3,7 @@ use Rattle.std.specs.List.{position}
 use Rattle.vv_flat.specs.Lists.{if_found}
 use Rattle.vv_flat.specs.State.{Address, Binding, Context}
 use Rattle.vv_flat.specs.Bindings.{is_binding_of, binding_of, binding_at, bound_address, endpoints_of, new_address, with_binding}
-use Rattle.vv_bind.specs.Table.{BindState, address, bind_fault, with_one_more}
+use Rattle.vv_bind.specs.Table.{BindState, IsHost, address, bind_fault, with_one_more}
 use Rattle.vv_flat.proofs.Positions.{is_some_at, not_found}
 use Rattle.vv_bind.proofs.RowLemmas.{place_in}
 use Rattle.vv_bind.proofs.TableLemmas.{state, few_bound, room_new, kept-changed, kept-put, some_endpoint, address_found, with_found, with_new, new_is, table_is}
@@ -55,6 +55,7 @@ invariant_of-self-2 c =
     let none = not_found test t.bindings (place_in test t.bindings c.deref.result.now c.place_of.result c.deref.ensures.value c.place_of.ensures ∙ c.in_default.is) in
     let free = subst (λ (xs : List Binding). binding_at xs (address c.args.host.0 c.first_endpoint-endpoint.result.0 c.least_free-secondary.result.0) ≡ None) c.deref-3.ensures.value c.least_free-secondary.ensures.free in
     kept-put _ _ _ _ _ _ c.of.result c.self.invariant
+    (subst (λ (b : Binding). IsHost b.address.host) (sym c.of.ensures) c.requires.host)
     (subst (λ (a : Address). binding_at c.self.inside.bindings.items a ≡ None) (sym (ap (λ (b : Binding). b.address) c.of.ensures)) free)
     (room_new t c.args.host.0 c.args.volume.0 c.self.invariant.few none may) c.put.ensures.items c.put.ensures.capacity
 

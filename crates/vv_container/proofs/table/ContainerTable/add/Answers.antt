@@ -8,5 +8,5 @@ invariant_of-self c =
     let room = subst (λ (rows : List ChargedContainer). length rows < 32) (sym c.self.view_is) c.requires.room in
     let above = subst (λ (rows : List ChargedContainer). is_above_all c.args.id.0 rows ≡ true) (sym c.self.view_is) c.requires.above in
     kept-push _ _ _ _ c.of.result c.self.invariant room
-    (subst (λ (r : ChargedContainer). is_above_all r.container.number c.self.inside.rows.items ≡ true) (sym c.of.ensures) above)
+    (subst (λ (r : ChargedContainer). is_above_all r.container.number c.self.inside.rows.items ≡ true) (sym c.of.ensures.row) above) c.of.ensures.forms
     c.push.ensures.items c.push.ensures.capacity

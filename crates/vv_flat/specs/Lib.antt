@@ -11,6 +11,7 @@ pub mod Profiles
 pub mod Refusals
 pub mod Changes
 pub mod Sharing
+pub mod NamedPlaces
 pub mod Rules
 pub mod Fields
 pub mod Form

@@ -15,5 +15,8 @@ pub mod NamedPlaces
 pub mod Rules
 pub mod Fields
 pub mod Form
+pub mod WellFormed
 pub mod Replay
 pub mod Flat
+pub mod Answers
+pub mod Logs

@@ -1,1 +1,5 @@
 pub mod KeepForms
+pub mod WellFormed
+pub mod OtherContents
+pub mod Answering
+pub mod Replays

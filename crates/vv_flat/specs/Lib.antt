@@ -17,6 +17,7 @@ pub mod Fields
 pub mod Form
 pub mod WellFormed
 pub mod Replay
+pub mod Plans
 pub mod Flat
 pub mod Answers
 pub mod Logs

@@ -3,3 +3,4 @@ pub mod WellFormed
 pub mod OtherContents
 pub mod Answering
 pub mod Replays
+pub mod Planning

@@ -1,6 +1,7 @@
 pub mod Lists
 pub mod State
 pub mod Chunks
+pub mod Parts
 pub mod Space
 pub mod Bits
 pub mod Bindings

@@ -4,3 +4,8 @@ pub mod OtherContents
 pub mod Answering
 pub mod Replays
 pub mod Planning
+pub mod BoundVolumes
+pub mod Standing
+pub mod ListParts
+pub mod ChunkBytes
+pub mod WrittenVolumes

@@ -17,6 +17,7 @@ pub mod Rules
 pub mod Fields
 pub mod Form
 pub mod WellFormed
+pub mod FlatForm
 pub mod Replay
 pub mod Plans
 pub mod Flat

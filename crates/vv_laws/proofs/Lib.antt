@@ -9,3 +9,4 @@ pub mod Standing
 pub mod ListParts
 pub mod ChunkBytes
 pub mod WrittenVolumes
+pub mod NewStamps

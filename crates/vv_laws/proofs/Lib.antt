@@ -10,3 +10,4 @@ pub mod ListParts
 pub mod ChunkBytes
 pub mod WrittenVolumes
 pub mod NewStamps
+pub mod FlatKeeps

@@ -331,7 +331,7 @@ module _ {X : Type 0} (stamp_of : X → ℕ) (u : X) (d : Durable X) (clones : C
             ap (λ b. not b || false) (ne_eqb (d.lsn + 1) c.number (λ f. omega arith))) d.clones clones.logged) is;
       }
 
-  new_of : (values : List X) (change : Change)
+  pub new_of : (values : List X) (change : Change)
       → New X stamp_of d (effect stamp_of values u d change).clones (new_stamp d change) (new_home change)
       (changed_indexes stamp_of d change)
   unfolding effect changed_indexes

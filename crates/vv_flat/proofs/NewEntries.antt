@@ -25,7 +25,7 @@ all-take p (suc k) [] e = refl
 all-take p (suc k) (x ∷ xs) e =
     and_both (p x) _ (and_left (p x) (list_all p xs) e) (all-take p k xs (and_right (p x) (list_all p xs) e))
 
-all-drop : {A : Type 0} (p : A → Bool) (k : ℕ) (xs : List A) → list_all p xs ≡ true → list_all p (drop k xs) ≡ true
+pub all-drop : {A : Type 0} (p : A → Bool) (k : ℕ) (xs : List A) → list_all p xs ≡ true → list_all p (drop k xs) ≡ true
 all-drop p zero xs e = e
 all-drop p (suc k) [] e = refl
 all-drop p (suc k) (x ∷ xs) e = all-drop p k xs (and_right (p x) (list_all p xs) e)

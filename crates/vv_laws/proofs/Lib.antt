@@ -11,3 +11,4 @@ pub mod ChunkBytes
 pub mod WrittenVolumes
 pub mod NewStamps
 pub mod FlatKeeps
+pub mod WellFormedArrays

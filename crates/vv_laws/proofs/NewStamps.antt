@@ -68,7 +68,7 @@ none_new stamp_of d left s home = record {
 }
 
 -- the indexes of a turn: none, or those of a running clone
-turned_case : {X : Type 0} (stamp_of : X → ℕ) (d : Durable X) (n : ℕ) (P : List ℕ → Type 0) → P []
+pub turned_case : {X : Type 0} (stamp_of : X → ℕ) (d : Durable X) (n : ℕ) (P : List ℕ → Type 0) → P []
     → ((t : Task) (c : RunningClone X) → task_of d n ≡ Some t → t.number ≡ n → clone_of d n ≡ Some c
     → P (turn_indexes (map stamp_of c.image) t.done))
     → P (turned_indexes stamp_of d n)

@@ -78,7 +78,7 @@ rebuilt size (y ∷ ys) bytes long each =
     swapped : (a b : ℕ) → a + b ≡ b + a
     swapped a b = omega arith
 
-written_long : (bytes new : List ℕ) (at : ℕ) → at + length new ≤ length bytes → length (overwritten bytes at new) ≡ length bytes
+pub written_long : (bytes new : List ℕ) (at : ℕ) → at + length new ≤ length bytes → length (overwritten bytes at new) ≡ length bytes
 written_long bytes new at le =
     let a : length (overwritten bytes at new) ≡ length (take at bytes ++ new) + length (drop (at + length new) bytes) =
     length-append (take at bytes ++ new) (drop (at + length new) bytes) in

@@ -22,4 +22,5 @@ pub mod Replay
 pub mod Plans
 pub mod Flat
 pub mod Answers
+pub mod Runs
 pub mod Logs

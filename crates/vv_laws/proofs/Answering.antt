@@ -104,7 +104,7 @@ tables_answer capabilities bytes_at tables volatile change =
     (misfit-map (filled tables.geometry.chunk_blocks bytes_at) capabilities tables change)
     ∙ ap (λ d. judge (misfit_in capabilities tables change) d change) (filled_shape bytes_at tables)
 
-answer_is : (capabilities : List Capability) (a : Array ChunkValue) (change : Change)
+pub answer_is : (capabilities : List Capability) (a : Array ChunkValue) (change : Change)
     → answer capabilities a change ≡ judge (misfit_in capabilities a.durable change) (shape a.durable) change
 unfolding answer
 answer_is capabilities a change = refl

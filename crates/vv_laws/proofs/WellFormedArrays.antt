@@ -10,20 +10,23 @@ use Rattle.std.proofs.lemmas.Bool.{ltb-true, lt-ltb, ltb-false, leb-true, eqb-tr
 use Rattle.vv_units.specs.Sizes.{block_bytes}
 use Rattle.vv_units.specs.declared.geometry.Geometry.{Geometry}
 use Rattle.vv_flat.specs.Lists.{if_found, mapped_from, numbers_from, indexes_from}
-use Rattle.vv_flat.specs.State.{Durable, Volume, RunningClone, RunningCopy, Piece, Task, indexed, all_pieces, volume_of, clone_of, task_of, map_durable}
+use Rattle.vv_flat.specs.State.{Array, Durable, empty_durable, Volume, RunningClone, RunningCopy, Piece, Task, indexed, all_pieces, volume_of, clone_of, task_of, map_durable}
 use Rattle.vv_flat.specs.Chunks.{ChunkValue, shape, chunk_bytes, unmapped_value, is_chunk_value, bytes_of, overwritten, chunk_in, touched_first, touched_count, touched_indexes, written_values, copied_values, volume_blocks}
 use Rattle.vv_flat.specs.Parts.{are_whole}
 use Rattle.vv_flat.specs.Tasks.{turn_indexes, turn_limit, turned_indexes}
 use Rattle.vv_flat.specs.Bits.{allocated_indexes}
-use Rattle.vv_flat.specs.Profiles.{Misfit}
+use Rattle.vv_flat.specs.Profiles.{Capability, Misfit}
 use Rattle.vv_flat.specs.Refusals.{Accept, OutOfRange}
 use Rattle.vv_flat.specs.Sharing.{is_told_by_stamp, stamps_tell_bytes}
 use Rattle.vv_flat.specs.Rules.{keeps_shape_rules}
 use Rattle.vv_flat.specs.FlatForm.{is_given, stamps_are_given, has_chunk_values, is_well_formed_array}
 use Rattle.vv_flat.specs.WellFormed.{is_well_formed_shape}
 use Rattle.vv_flat.specs.Fields.{change_has_forms}
-use Rattle.vv_flat.specs.Changes.{Change, MakeContainer, MakeVolume, DeleteVolume, GrowVolume, SetMetadata, Snapshot, FastClone, Revert, Write, Unmap, SetEndpoints, Bind, Unbind, UnbindAll, StartClone, StartCopy, Turn, Cancel, judge, state_checks, stamps_of, effect, apply, changed_indexes, new_stamp}
-use Rattle.vv_flat.specs.Flat.{has_its_bytes, new_values, flat_after}
+use Rattle.vv_flat.specs.Changes.{Change, MakeContainer, MakeVolume, DeleteVolume, GrowVolume, SetMetadata, Snapshot, FastClone, Revert, Write, Unmap, SetEndpoints, Bind, Unbind, UnbindAll, StartClone, StartCopy, Turn, Cancel, judge, state_checks, stamps_of, misfit_in, effect, apply, changed_indexes, new_stamp}
+use Rattle.vv_flat.specs.Flat.{has_its_bytes, new_values, flat_after, array_after}
+use Rattle.vv_flat.specs.Replay.{is_accepted}
+use Rattle.vv_flat.specs.Answers.{answer, next}
+use Rattle.vv_flat.specs.Runs.{Asked, is_asked_rightly, after_run}
 use Rattle.vv_flat.proofs.Filled.{geometry-effect}
 use Rattle.vv_flat.proofs.Verdicts.{passed_state, not_refused}
 use Rattle.vv_flat.proofs.Steps.{flat_step}
@@ -32,7 +35,10 @@ use Rattle.vv_flat.proofs.Shares.{and_left, and_right, and_both, list_all-follow
 use Rattle.vv_flat.proofs.NewEntries.{all-always, all-take, all-drop}
 use Rattle.vv_flat.proofs.Known.{all-found}
 use Rattle.vv_flat.proofs.Kept.{Kept, kept}
+use Rattle.vv_flat.proofs.KeepRules.{accepted_is}
 use Rattle.vv_laws.proofs.KeepForms.{well_formed_stays}
+use Rattle.vv_laws.proofs.WellFormed.{well_formed_shape, empty_well}
+use Rattle.vv_laws.proofs.Answering.{answer_is}
 use Rattle.vv_laws.proofs.Standing.{AllPass, new_home, pieces_at, stays_right}
 use Rattle.vv_laws.proofs.NewStamps.{New, Clones, clones_of, pieces_pass, pass_pieces, turned_case}
 use Rattle.vv_laws.proofs.FlatKeeps.{each_at, new, stamps_after, told_after}
@@ -295,3 +301,160 @@ turn_values d n bytes e given = go (clone_of d n) refl
         (list_all-both (λ (i : ℕ). not (n == 0) && nat_le n (d.lsn + 1)) (λ i. nat_lt i (length c.image))
         (λ i. (not (n == 0) && nat_le n (d.lsn + 1)) && nat_lt i (length c.image)) (λ i f g. and_both _ _ f g)
         (turned_indexes (λ (x : ChunkValue). x.stamp) d n) given (turn_inside d n c found))
+
+values_good : (misfit : Option Misfit) (d : Durable ChunkValue) (change : Change) (bytes : List ℕ) → has_chunk_values d ≡ true
+    → has_its_bytes change bytes ≡ true → judge misfit (shape d) change ≡ Accept
+    → list_all (λ (i : ℕ). not (new_stamp d change == 0) && nat_le (new_stamp d change) (d.lsn + 1)) (changed_indexes (λ (x : ChunkValue). x.stamp) d change) ≡ true
+    → list_all (is_chunk_value d.geometry.chunk_blocks) (new_values d change bytes) ≡ true
+unfolding new_values
+values_good misfit d (MakeContainer quota offers) bytes e has accepted given = refl
+values_good misfit d (MakeVolume k vtype chunks needs) bytes e has accepted given = refl
+values_good misfit d (DeleteVolume n) bytes e has accepted given = refl
+values_good misfit d (GrowVolume n chunks) bytes e has accepted given = refl
+values_good misfit d (SetMetadata n key text) bytes e has accepted given = refl
+values_good misfit d (Snapshot n) bytes e has accepted given = refl
+values_good misfit d (FastClone n) bytes e has accepted given = refl
+values_good misfit d (Revert n snapshot) bytes e has accepted given = refl
+values_good misfit d (Write n first blocks) bytes e has accepted given = write_values misfit d n first blocks bytes e has accepted
+values_good misfit d (Unmap n ranges) bytes e has accepted given = refl
+values_good misfit d (SetEndpoints host endpoints) bytes e has accepted given = refl
+values_good misfit d (Bind host n) bytes e has accepted given = refl
+values_good misfit d (Unbind host endpoint secondary) bytes e has accepted given = refl
+values_good misfit d (UnbindAll host) bytes e has accepted given = refl
+values_good misfit d (StartClone n) bytes e has accepted given = refl
+values_good misfit d (StartCopy source base target) bytes e has accepted given = refl
+values_good misfit d (Turn n) bytes e has accepted given = turn_values d n bytes e given
+values_good misfit d (Cancel n) bytes e has accepted given = refl
+
+zeros : (n : ℕ) → list_all (λ b. b == 0) (replicate n 0) ≡ true
+zeros zero = refl
+zeros (suc n) = zeros n
+
+unmapped_good : (B : ℕ) → is_chunk_value B (unmapped_value B) ≡ true
+unmapped_good B =
+    and_both _ _ (eq-eqb (length (replicate (chunk_bytes B) 0)) (chunk_bytes B) (length-replicate (chunk_bytes B) 0)) (zeros (chunk_bytes B))
+
+record Parts (d : Durable ChunkValue) : Type 0 where
+  shaped : is_well_formed_shape (shape d) ≡ true
+  stamps : stamps_are_given (λ (x : ChunkValue). x.stamp) d ≡ true
+  told : stamps_tell_bytes d ≡ true
+  values : has_chunk_values d ≡ true
+
+parts : (d : Durable ChunkValue) → is_well_formed_array d ≡ true → Parts d
+unfolding is_well_formed_array
+parts d e = record {
+  shaped = and_left _ _ (and_left _ _ (and_left _ _ e));
+  stamps = and_right _ _ (and_left _ _ (and_left _ _ e));
+  told = and_right _ _ (and_left _ _ e);
+  values = and_right _ _ e;
+}
+
+pub whole_array : (d : Durable ChunkValue) → is_well_formed_shape (shape d) ≡ true → stamps_are_given (λ (x : ChunkValue). x.stamp) d ≡ true
+    → stamps_tell_bytes d ≡ true → has_chunk_values d ≡ true → is_well_formed_array d ≡ true
+unfolding is_well_formed_array
+whole_array d shaped stamps told values = and_both _ _ (and_both _ _ (and_both _ _ shaped stamps) told) values
+
+pub array_shape : (d : Durable ChunkValue) → is_well_formed_array d ≡ true → is_well_formed_shape (shape d) ≡ true
+array_shape d e = (parts d e).shaped
+
+pub array_values : (d : Durable ChunkValue) → is_well_formed_array d ≡ true → has_chunk_values d ≡ true
+array_values d e = (parts d e).values
+
+pub array_told : (d : Durable ChunkValue) → is_well_formed_array d ≡ true → stamps_tell_bytes d ≡ true
+array_told d e = (parts d e).told
+
+shape_kept : (d : Durable ChunkValue) → is_well_formed_shape (shape d) ≡ true → Kept (shape d)
+unfolding is_well_formed_shape
+shape_kept d e = kept (shape d) (and_left _ _ e)
+
+module _ (misfit : Option Misfit) (d : Durable ChunkValue) (change : Change) (bytes : List ℕ) (well : Parts d)
+    (forms : change_has_forms change ≡ true) (has : has_its_bytes change bytes ≡ true) (accepted : judge misfit (shape d) change ≡ Accept) where
+  abbrev u : ChunkValue
+  u = unmapped_value d.geometry.chunk_blocks
+
+  abbrev values : List ChunkValue
+  values = new_values d change bytes
+
+  abbrev end : Durable ChunkValue
+  end = effect (λ x. x.stamp) values u d change
+
+  clones : Clones ChunkValue (λ x. x.stamp) d
+  clones =
+      let k = shape_kept d well.shaped in
+      clones_of (λ (x : ChunkValue). x.stamp) d k.form k.numbers k.clones
+
+  old : AllPass ChunkValue (λ o p. is_given d.lsn d.clones o p.chunk.stamp) (λ _. true) d
+  old = given_kinds (λ (x : ChunkValue). x.stamp) d well.stamps
+
+  stamps_stay : stamps_are_given (λ (x : ChunkValue). x.stamp) (flat_after d change bytes) ≡ true
+  unfolding stamps_are_given flat_after apply
+  stamps_stay =
+      pass_given (λ (x : ChunkValue). x.stamp) (d.lsn + 1) end.clones end
+      (stamps_after (λ (x : ChunkValue). x.stamp) u refl d clones old values change (values_stamped d change bytes))
+
+  told_stays : stamps_tell_bytes (flat_after d change bytes) ≡ true
+  unfolding stamps_tell_bytes flat_after apply
+  told_stays = told_after u refl d clones old values change (values_stamped d change bytes) well.told
+
+  values_stay : has_chunk_values (flat_after d change bytes) ≡ true
+  unfolding has_chunk_values flat_after apply
+  values_stay =
+      let test : ℕ → Piece ChunkValue → Bool = λ B p. is_chunk_value B p.chunk in
+      let arrived : New ChunkValue (λ x. x.stamp) d end.clones (new_stamp d change) (new_home change) (changed_indexes (λ (x : ChunkValue). x.stamp) d change) =
+      new (λ (x : ChunkValue). x.stamp) u refl d clones old values change (values_stamped d change bytes) in
+      ap (λ (g : Geometry). list_all (λ (p : Piece ChunkValue). is_chunk_value g.chunk_blocks p.chunk) (all_pieces end))
+      (geometry-effect (λ (x : ChunkValue). x.stamp) values u d change)
+      ∙ pieces_pass (test d.geometry.chunk_blocks) (λ _. true) end
+      (stays_right (λ (x : ChunkValue). x.stamp) u d values change (λ o p. test d.geometry.chunk_blocks p) (λ _. true) (record {
+        free = (λ o i. unmapped_good d.geometry.chunk_blocks);
+        stands = value_kinds d well.values;
+        ends = (λ n gone p h. h);
+        next = refl;
+        rise = clones.rise;
+      })
+      (each_at (test d.geometry.chunk_blocks) (λ _. true) (is_chunk_value d.geometry.chunk_blocks) (λ i v e f. f)
+      (changed_indexes (λ (x : ChunkValue). x.stamp) d change) values
+      (all-always (λ (i : ℕ). true) (λ i. refl) (changed_indexes (λ (x : ChunkValue). x.stamp) d change))
+      (values_good misfit d change bytes well.values has accepted arrived.given)))
+
+  shape_stays : is_well_formed_shape (shape (flat_after d change bytes)) ≡ true
+  shape_stays =
+      ap is_well_formed_shape (flat_step d change bytes has) ∙ well_formed_stays misfit (shape d) change well.shaped forms accepted
+
+-- So an accepted change keeps a flat array well-formed.
+pub array_stays : (misfit : Option Misfit) (d : Durable ChunkValue) (change : Change) (bytes : List ℕ) → is_well_formed_array d ≡ true
+    → change_has_forms change ≡ true → has_its_bytes change bytes ≡ true → judge misfit (shape d) change ≡ Accept
+    → is_well_formed_array (flat_after d change bytes) ≡ true
+array_stays misfit d change bytes e forms has accepted =
+    let well = parts d e in
+    whole_array (flat_after d change bytes) (shape_stays misfit d change bytes well forms has accepted) (stamps_stay misfit d change bytes well forms has accepted)
+    (told_stays misfit d change bytes well forms has accepted) (values_stay misfit d change bytes well forms has accepted)
+
+-- The array after a change that is asked for, accepted or not.
+pub next_stays : (capabilities : List Capability) (a : Array ChunkValue) (change : Change) (bytes : List ℕ) → is_well_formed_array a.durable ≡ true
+    → change_has_forms change ≡ true → has_its_bytes change bytes ≡ true → is_well_formed_array (next capabilities a change bytes).durable ≡ true
+unfolding next
+next_stays capabilities a change bytes e forms has = go (is_accepted (answer capabilities a change)) refl
+  where
+    go : (b : Bool) → is_accepted (answer capabilities a change) ≡ b → is_well_formed_array (cond b (array_after a change bytes) a).durable ≡ true
+    go false is = e
+    go true is =
+        array_stays (misfit_in capabilities a.durable change) a.durable change bytes e forms has
+        (sym (answer_is capabilities a change) ∙ accepted_is (answer capabilities a change) is)
+
+-- And so does a run.
+pub run_stays : (capabilities : List Capability) (a : Array ChunkValue) (run : List Asked) → is_well_formed_array a.durable ≡ true
+    → list_all is_asked_rightly run ≡ true → is_well_formed_array (after_run capabilities a run).durable ≡ true
+unfolding after_run
+run_stays capabilities a [] e rightly = e
+run_stays capabilities a (asked ∷ rest) e rightly =
+    run_stays capabilities (next capabilities a asked.change asked.bytes) rest
+    (next_stays capabilities a asked.change asked.bytes e (and_left (change_has_forms asked.change) _ (and_left (is_asked_rightly asked) _ rightly))
+    (and_right (change_has_forms asked.change) _ (and_left (is_asked_rightly asked) _ rightly)))
+    (and_right (is_asked_rightly asked) _ rightly)
+
+-- The empty array is well-formed.
+pub empty_array_well : (geometry : Geometry) → is_well_formed_array (empty_durable {X = ChunkValue} geometry) ≡ true
+unfolding stamps_are_given stamps_tell_bytes has_chunk_values
+empty_array_well geometry =
+    whole_array (empty_durable geometry) (well_formed_shape (empty_durable geometry) (empty_well geometry)) refl refl refl

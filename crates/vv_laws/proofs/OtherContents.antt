@@ -11,7 +11,7 @@ use Rattle.vv_flat.specs.Changes.{Change, new_stamp}
 use Rattle.vv_flat.specs.Replay.{replayed}
 use Rattle.vv_flat.specs.Flat.{new_values, flat_after}
 use Rattle.vv_flat.specs.NamedPlaces.{is_named}
-use Rattle.vv_flat.proofs.MapLists.{map-after}
+use Rattle.vv_flat.proofs.MapLists.{map-after, map-same}
 use Rattle.vv_flat.proofs.Steps.{record_is_call}
 
 -- one function after another, over all chunks
@@ -134,3 +134,16 @@ record_with_content before after tables change places bytes h e =
     let same : filled_tables after tables ≡ filled_tables before tables = same_filled after before tables h in
     record_is_call after tables change places bytes (e ∙ ap (λ d. new_values d change bytes) (sym same))
     ∙ ap (λ d. flat_after d change bytes) same
+
+-- each chunk as it is
+pub map-durable_same : (d : Durable ℕ) → map_durable (λ s. s) d ≡ d
+map-durable_same d =
+    let volumes = map-same (map_volume (λ (s : ℕ). s)) (λ v. ap (λ (xs : List ℕ). record v { chunks = xs }) (map-same (λ s. s) (λ s. refl) v.chunks)) d.volumes in
+    let clones = map-same (map_clone (λ (s : ℕ). s))
+    (λ c. ap (λ (xs : List ℕ). record c { image = xs; target = map (λ s. s) c.target }) (map-same (λ s. s) (λ s. refl) c.image)
+    ∙ ap (λ (xs : List ℕ). record c { target = xs }) (map-same (λ s. s) (λ s. refl) c.target)) d.clones in
+    let copies = map-same (map_copy (λ (s : ℕ). s))
+    (λ c. ap (λ (ps : List (Piece ℕ)). record c { pieces = ps }) (map-same (map_piece (λ s. s)) (λ p. refl) c.pieces)) d.copies in
+    ap (λ (vs : List (Volume ℕ)). record (map_durable (λ s. s) d) { volumes = vs }) volumes
+    ∙ ap (λ (cs : List (RunningClone ℕ)). record d { clones = cs; copies = map (map_copy (λ s. s)) d.copies }) clones
+    ∙ ap (λ (cs : List (RunningCopy ℕ)). record d { copies = cs }) copies

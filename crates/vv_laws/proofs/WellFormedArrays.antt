@@ -22,7 +22,7 @@ use Rattle.vv_flat.specs.Rules.{keeps_shape_rules}
 use Rattle.vv_flat.specs.FlatForm.{is_given, stamps_are_given, has_chunk_values, is_well_formed_array}
 use Rattle.vv_flat.specs.WellFormed.{is_well_formed_shape}
 use Rattle.vv_flat.specs.Fields.{change_has_forms}
-use Rattle.vv_flat.specs.Changes.{Change, MakeContainer, MakeVolume, DeleteVolume, GrowVolume, SetMetadata, Snapshot, FastClone, Revert, Write, Unmap, SetEndpoints, Bind, Unbind, UnbindAll, StartClone, StartCopy, Turn, Cancel, judge, state_checks, stamps_of, misfit_in, effect, apply, changed_indexes, new_stamp}
+use Rattle.vv_flat.specs.Changes.{Change, MakeContainer, MakeVolume, DeleteVolume, GrowVolume, SetMetadata, Snapshot, FastClone, Revert, Write, Unmap, SetEndpoints, Bind, Unbind, UnbindAll, StartClone, StartCopy, Turn, Cancel, judge, state_checks, stamps_of, misfit_in, effect, apply, apply_shape, changed_indexes, new_stamp}
 use Rattle.vv_flat.specs.Flat.{has_its_bytes, new_values, flat_after, array_after}
 use Rattle.vv_flat.specs.Replay.{is_accepted}
 use Rattle.vv_flat.specs.Answers.{answer, next}
@@ -32,13 +32,14 @@ use Rattle.vv_flat.proofs.Verdicts.{passed_state, not_refused}
 use Rattle.vv_flat.proofs.Steps.{flat_step}
 use Rattle.vv_flat.proofs.NothingChanges.{stamps_found}
 use Rattle.vv_flat.proofs.Shares.{and_left, and_right, and_both, list_all-follows, list_all-both}
-use Rattle.vv_flat.proofs.NewEntries.{all-always, all-take, all-drop}
+use Rattle.vv_flat.proofs.NewEntries.{all-always, all-take, all-drop, all-swap}
 use Rattle.vv_flat.proofs.Known.{all-found}
 use Rattle.vv_flat.proofs.Kept.{Kept, kept}
 use Rattle.vv_flat.proofs.KeepRules.{accepted_is}
 use Rattle.vv_laws.proofs.KeepForms.{well_formed_stays}
 use Rattle.vv_laws.proofs.WellFormed.{well_formed_shape, empty_well}
 use Rattle.vv_laws.proofs.Answering.{answer_is}
+use Rattle.vv_laws.proofs.OtherContents.{map-durable_same}
 use Rattle.vv_laws.proofs.Standing.{AllPass, new_home, pieces_at, stays_right}
 use Rattle.vv_laws.proofs.NewStamps.{New, Clones, clones_of, pieces_pass, pass_pieces, turned_case}
 use Rattle.vv_laws.proofs.FlatKeeps.{each_at, new, stamps_after, told_after}
@@ -458,3 +459,29 @@ pub empty_array_well : (geometry : Geometry) → is_well_formed_array (empty_dur
 unfolding stamps_are_given stamps_tell_bytes has_chunk_values
 empty_array_well geometry =
     whole_array (empty_durable geometry) (well_formed_shape (empty_durable geometry) (empty_well geometry)) refl refl refl
+
+-- A new stamp stands nowhere yet at its index.
+pub new_stamp_new : (d : Durable ChunkValue) (change : Change) → is_well_formed_array d ≡ true
+    → list_all (λ i. list_all (λ (p : Piece ChunkValue). not ((p.index == i) && (p.chunk.stamp == new_stamp d change))) (all_pieces d))
+    (changed_indexes (λ (x : ChunkValue). x.stamp) d change) ≡ true
+new_stamp_new d change e =
+    let well = parts d e in
+    let k = shape_kept d well.shaped in
+    all-swap (λ (p : Piece ChunkValue) i. not ((p.index == i) && (p.chunk.stamp == new_stamp d change))) (all_pieces d)
+    (changed_indexes (λ (x : ChunkValue). x.stamp) d change)
+    (new (λ (x : ChunkValue). x.stamp) (unmapped_value d.geometry.chunk_blocks) refl d
+    (clones_of (λ (x : ChunkValue). x.stamp) d k.form k.numbers k.clones) (given_kinds (λ (x : ChunkValue). x.stamp) d well.stamps) [] change refl).misses_old
+
+-- Stamps of a shape that were given are so after each change.
+pub shape_stamps_stay : (d : Durable ℕ) (change : Change) → is_well_formed_shape d ≡ true → stamps_are_given (λ s. s) d ≡ true
+    → stamps_are_given (λ s. s) (apply_shape d change) ≡ true
+unfolding is_well_formed_shape stamps_are_given apply_shape apply
+shape_stamps_stay d change e stamps =
+    let same : map_durable (λ s. s) d ≡ d = map-durable_same d in
+    let k : Kept (map_durable (λ s. s) d) = kept (map_durable (λ s. s) d) (ap keeps_shape_rules same ∙ and_left _ _ e) in
+    let is : List ℕ = changed_indexes (λ s. s) d change in
+    let values : List ℕ = map (λ _. new_stamp d change) is in
+    pass_given (λ s. s) (d.lsn + 1) (effect (λ s. s) values 0 d change).clones (effect (λ s. s) values 0 d change)
+    (stamps_after (λ s. s) 0 refl d (clones_of (λ s. s) d k.form k.numbers k.clones) (given_kinds (λ s. s) d stamps) values change
+    (all_mapped (λ v. v == new_stamp d change) (λ _. new_stamp d change) (λ _. true) (λ i f. stamp_is (new_stamp d change)) is
+    (all-always (λ (i : ℕ). true) (λ i. refl) is)))

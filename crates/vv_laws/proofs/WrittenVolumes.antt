@@ -19,7 +19,7 @@ use Rattle.vv_flat.proofs.Steps.{find-passes}
 use Rattle.vv_flat.proofs.KeepTasks.{find-changed_found}
 use Rattle.vv_flat.proofs.Lookups.{find-changed}
 use Rattle.vv_laws.proofs.ListParts.{take-append, drop-append, drop-past, take-past, drop-drop, part_overwritten}
-use Rattle.vv_laws.proofs.ChunkBytes.{chunk_is, bytes_long}
+use Rattle.vv_laws.proofs.ChunkBytes.{chunk_is, bytes_long, some_blocks}
 
 -- Chunks put into a list.
 
@@ -196,3 +196,42 @@ module _ (B : ℕ) (some : 0 < B) (chunks : List ChunkValue) (whole : are_whole 
       ap bytes_of same
       ∙ rebuilt (B * 512) (put_at is (map value is) chunks) after (omega (arith, sizes, all, after_long))
       (λ i lt. put_bytes (blocks == 0) refl i (omega (arith, lt, long)))
+
+-- A write in an array: its volume has the written chunks,
+pub volume_written : (d : Durable ChunkValue) (n first blocks : ℕ) (bytes : List ℕ) (v : Volume ChunkValue) → volume_of d n ≡ Some v
+    → (length bytes == blocks * block_bytes) ≡ true
+    → volume_of (flat_after d (Write n first blocks) bytes) n ≡ Some (record v { chunks = written d.geometry.chunk_blocks v.chunks first bytes (d.lsn + 1) })
+unfolding flat_after apply effect new_values
+volume_written d n first blocks bytes v found e =
+    let long : length bytes ≡ blocks * 512 = eqb-true (length bytes) (blocks * 512) e in
+    let count : length bytes / 512 ≡ blocks = omega (arith, long) in
+    let is : v.number ≡ n = eqb-true v.number n (find-passes (λ (w : Volume ChunkValue). w.number == n) d.volumes v found) in
+    let values : List ChunkValue = if_found (volume_of d n) (λ (w : Volume ChunkValue). written_values d.geometry.chunk_blocks w.chunks first bytes (d.lsn + 1)) [] in
+    let same : values ≡ written_values d.geometry.chunk_blocks v.chunks first bytes (d.lsn + 1) =
+    ap (λ o. if_found o (λ (w : Volume ChunkValue). written_values d.geometry.chunk_blocks w.chunks first bytes (d.lsn + 1)) []) found in
+    find-changed_found (λ (w : Volume ChunkValue). w.number == n)
+    (λ (w : Volume ChunkValue). record w { chunks = put_at (touched_indexes d.geometry.chunk_blocks first blocks) values w.chunks }) v d.volumes found
+    (eq-eqb v.number n is)
+    ∙ ap (λ (xs : List ChunkValue). Some (record v { chunks = put_at (touched_indexes d.geometry.chunk_blocks first blocks) xs v.chunks })) same
+    ∙ ap (λ k. Some (record v { chunks = put_at (touched_indexes d.geometry.chunk_blocks first k) (written_values d.geometry.chunk_blocks v.chunks first bytes (d.lsn + 1)) v.chunks })) (sym count)
+
+-- and every other volume stays.
+pub others_stay : (d : Durable ChunkValue) (n m first blocks : ℕ) (bytes : List ℕ) → (m == n) ≡ false
+    → volume_of (flat_after d (Write n first blocks) bytes) m ≡ volume_of d m
+unfolding flat_after apply effect
+others_stay d n m first blocks bytes other =
+    find-changed (λ (w : Volume ChunkValue). w.number == n) (λ (w : Volume ChunkValue). w.number == m) (λ o. o)
+    (λ w. record w { chunks = put_at (touched_indexes d.geometry.chunk_blocks first blocks) (new_values d (Write n first blocks) bytes) w.chunks }) d.volumes
+    (λ w found. refl)
+    (λ w found at. let here : w.number ≡ n = eqb-true w.number n (find-passes (λ (x : Volume ChunkValue). x.number == n) d.volumes w found) in
+    let there : w.number ≡ m = eqb-true w.number m at in
+    let f : (m == n) ≡ true = eq-eqb m n (sym there ∙ here) in cc)
+
+-- A write's volume has the new bytes at their place.
+pub volume_bytes_written : (B : ℕ) → is_chunk_size B ≡ true → (chunks : List ChunkValue) → are_whole B chunks ≡ true → (first blocks stamp : ℕ) (new : List ℕ)
+    → (length new == blocks * block_bytes) ≡ true → first + blocks ≤ length chunks * B
+    → bytes_of (written B chunks first new stamp) ≡ overwritten (bytes_of chunks) (first * block_bytes) new
+volume_bytes_written B size chunks whole first blocks stamp new has inside =
+    let long : length new ≡ blocks * 512 = eqb-true (length new) (blocks * 512) has in
+    let times : length chunks * (B * 512) ≡ length chunks * B * 512 = sym (mul_assoc (length chunks) B 512) in
+    written_bytes B (some_blocks B size) chunks whole first blocks stamp new long (omega (arith, long, times, inside))

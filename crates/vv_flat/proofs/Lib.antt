@@ -32,3 +32,4 @@ pub mod KeepLimits
 pub mod KeepRules
 pub mod KeepInterrupted
 pub mod NamedPlaces
+pub mod GuardRows

@@ -1,6 +1,6 @@
 -- Rows that pin the order of refusals and their borders, kind by kind: in each shape two checks that stand beside each
 -- other both fail, and the first of them is answered. All are computed from the definitions.
-use Rattle.std.specs.Prelude.{◌≡◌, ℕ, ◌+◌, ◌-◌, ◌^◌, List, [], ◌∷◌, ◌++◌, map, Option, Some, None, refl, replicate, codes}
+use Rattle.std.specs.Prelude.{◌≡◌, ℕ, ◌-◌, ◌^◌, List, [], ◌∷◌, ◌++◌, map, Option, Some, None, refl, replicate}
 use Rattle.std.proofs.Common.{lit≤}
 use Rattle.vv_units.specs.declared.geometry.Geometry.{Geometry}
 use Rattle.vv_units.specs.declared.volume.VvolType.TheVariants.{Data}
@@ -9,7 +9,7 @@ use Rattle.vv_units.specs.declared.volume.VolumeKind.TheVariants.{Plain, Snapsho
 use Rattle.vv_units.specs.declared.volume.TaskState.TheVariants.{Running, Success}
 use Rattle.vv_units.specs.declared.volume.Why.TheVariants.{Unknown}
 use Rattle.vv_units.specs.declared.field.Field.TheVariants.{Container as in_container, Vvol as in_vvol, SizeInMb as in_size, Snapshot as in_snapshot, Source as in_source, Base as in_base, Target as in_target, Task as in_task, Endpoints as in_endpoints, Host as in_host, Secondary as in_secondary, Binding as in_binding, Count as in_count, Key as in_key, Pairs}
-use Rattle.vv_flat.specs.State.{Durable, Container, Volume, Context, Binding, Task, Clone, Copy, empty_durable, first_container}
+use Rattle.vv_flat.specs.State.{Durable, Volume, Binding, Clone, Copy, empty_durable, first_container}
 use Rattle.vv_flat.specs.Space.{used, reserved, free, entries, charge}
 use Rattle.vv_flat.specs.Profiles.{Misfit}
 use Rattle.vv_flat.specs.Tasks.{turn_indexes}
@@ -267,7 +267,7 @@ difference_copies = refl
 
 -- then the running tasks, then the quota, then the map
 full_copies : map (λ d. judge None d (StartCopy 3 5 2)) (record hurried { volumes = volume 2 1 Plain (0 ∷ 5 ∷ 6 ∷ []) ∷ hurried.volumes }
-      ∷ record spread { volumes = volume 2 1 Plain (0 ∷ 5 ∷ 6 ∷ []) ∷ spread.volumes } ∷ spread ∷ ground ∷ [])
+    ∷ record spread { volumes = volume 2 1 Plain (0 ∷ 5 ∷ 6 ∷ []) ∷ spread.volumes } ∷ spread ∷ ground ∷ [])
     ≡ Refuse (TooMany in_task 16) ∷ Refuse (OverQuota 4 1 2) ∷ Refuse (MapFull 73 1 64) ∷ Accept ∷ []
 unfolding judge entries charge hurried spread ground
 full_copies = refl

@@ -33,3 +33,4 @@ pub mod KeepRules
 pub mod KeepInterrupted
 pub mod NamedPlaces
 pub mod GuardRows
+pub mod RuleRows

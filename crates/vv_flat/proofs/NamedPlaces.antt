@@ -1,17 +1,17 @@
 -- Entries that share places rightly use as many chunks of the pool as they name places.
 use Rattle.std.proofs.Common.{◌≡◌, ◌≤◌, ◌<◌, ℕ, zero, suc, ◌+◌, ◌==◌, ◌&&◌, ◌||◌, not, refl, ap, sym, ◌∙◌, Bool, true, false, cond, List, [], ◌∷◌, map, length, arith}
-use Rattle.std.specs.Prelude.{Option, Some, None, nat_lt, count_by}
+use Rattle.std.specs.Prelude.{Option, Some, None, count_by}
 use Rattle.std.specs.List.{filter, list_all, list_any}
 use Rattle.std.proofs.lemmas.List.Sums.{sum_by-cons}
-use Rattle.std.proofs.lemmas.Bool.{eqb-true, eqb-false, eq-eqb, ne_eqb, ltb-true}
-use Rattle.vv_flat.specs.Lists.{if_found, numbers_from}
+use Rattle.std.proofs.lemmas.Bool.{eqb-true, eqb-false, ne_eqb, ltb-true}
+use Rattle.vv_flat.specs.Lists.{numbers_from}
 use Rattle.vv_flat.specs.State.{Durable, Piece, map_piece, all_pieces}
 use Rattle.vv_flat.specs.Chunks.{Entry, shape_of_tables}
 use Rattle.vv_flat.specs.Space.{distinct, used}
 use Rattle.vv_flat.specs.Sharing.{is_placed, both_or_neither, agrees, names_place, shares_places, place_count, shares}
 use Rattle.vv_flat.specs.NamedPlaces.{is_named, named_count, used_by}
 use Rattle.vv_flat.proofs.Shares.{and_left, and_right, and_both, list_all-follows, shares-places, map-all_pieces}
-use Rattle.vv_flat.proofs.Distinct.{same_piece, member, is_some_piece}
+use Rattle.vv_flat.proofs.Distinct.{member, is_some_piece}
 use Rattle.vv_flat.proofs.NewEntries.{eq_turn}
 
 -- an item passes exactly where the count isn't 0

@@ -1,7 +1,6 @@
 -- Blocks that are read and written chunk by chunk: which part of each chunk they are. This is this project's own.
 use Rattle.std.specs.Prelude.{ℕ, ◌+◌, ◌-◌, ◌*◌, ◌==◌, Bool, List, [], take, drop, length, slice_get, unwrap_or, option_map}
 use Rattle.std.specs.List.{list_all}
-use Rattle.vv_units.specs.Sizes.{block_bytes}
 use Rattle.vv_flat.specs.Chunks.{ChunkValue, chunk_bytes, overwritten}
 
 -- whether all chunks of a volume have the bytes of so many blocks

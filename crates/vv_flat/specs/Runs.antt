@@ -1,6 +1,5 @@
 -- A run of a flat array: changes that are asked for one after the other, each with its bytes. This is this project's own.
 use Rattle.std.specs.Prelude.{ℕ, ◌&&◌, Bool, List, [], ◌∷◌}
-use Rattle.std.specs.List.{list_all}
 use Rattle.vv_flat.specs.State.{Array}
 use Rattle.vv_flat.specs.Chunks.{ChunkValue}
 use Rattle.vv_flat.specs.Profiles.{Capability}

@@ -12,3 +12,4 @@ pub mod WrittenVolumes
 pub mod NewStamps
 pub mod FlatKeeps
 pub mod WellFormedArrays
+pub mod VolatileForms

@@ -8,6 +8,7 @@ mod contents;
 mod logs;
 mod plans;
 mod units;
+mod volatile;
 mod volumes;
 mod well_formed;
 
@@ -30,6 +31,11 @@ pub use plans::{a_place_is_used_or_fresh, an_accepted_change_finds_its_places, w
 pub use units::{
     a_bound_volume_stands_and_is_not_busy, a_write_that_a_unit_lets_through_passes_the_checks_of_state,
     an_unmap_that_a_unit_lets_through_passes_the_checks_of_state,
+};
+pub use volatile::{
+    a_change_keeps_the_volatile_form, a_cleared_attention_keeps_the_volatile_form, a_restarted_array_has_the_volatile_form,
+    a_step_keeps_the_volatile_form, a_submitted_command_keeps_the_volatile_form, a_taken_command_keeps_the_volatile_form,
+    an_interruption_keeps_the_volatile_form, the_empty_array_has_the_volatile_form,
 };
 pub use volumes::{
     a_read_joins_parts_of_chunks, a_write_leaves_all_other_volumes, a_write_replaces_parts_of_chunks, a_write_writes_its_volume,

@@ -13,3 +13,4 @@ pub mod NewStamps
 pub mod FlatKeeps
 pub mod WellFormedArrays
 pub mod VolatileForms
+pub mod KeptNumbers

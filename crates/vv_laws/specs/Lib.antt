@@ -1,3 +1,4 @@
 pub mod Logs
 pub mod Units
 pub mod VolatileForm
+pub mod Counts

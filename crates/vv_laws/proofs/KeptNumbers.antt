@@ -1,0 +1,272 @@
+-- What an accepted change adds to the entries and to the reserved chunks, and what it takes from them.
+use Rattle.std.proofs.Common.{◌≡◌, ◌≤◌, ◌<◌, ℕ, zero, suc, ◌+◌, ◌-◌, ◌*◌, ◌/◌, ◌==◌, ◌&&◌, ◌||◌, not, refl, ap, sym, ◌∙◌, Bool, true, false, cond, List, [], ◌∷◌, ◌++◌, map, length, replicate, take, drop, arith, length-take}
+use Rattle.std.specs.Prelude.{Option, Some, None, is_none, nat_lt, nat_le, sum_by, min}
+use Rattle.std.specs.List.{find}
+use Rattle.std.proofs.lemmas.List.{length-append, length-replicate}
+use Rattle.std.proofs.lemmas.List.Sums.{sum_by-cons}
+use Rattle.std.proofs.lemmas.Bool.{eqb-true, leb-true, ltb-false, or_parts}
+use Rattle.vv_units.specs.declared.volume.TaskState.TheVariants.{Running, Success, Cancelled}
+use Rattle.vv_units.specs.declared.volume.VolumeKind.TheVariants.{Plain, SnapshotOf, FastCloneOf}
+use Rattle.vv_units.specs.declared.field.Field.TheVariants.{Vvol as in_vvol, Snapshot as in_snapshot, Source as in_source, Base as in_base}
+use Rattle.vv_flat.specs.Lists.{if_found, first_changed, put_before, first_removed, put_at}
+use Rattle.vv_flat.specs.State.{Durable, Volume, RunningClone, RunningCopy, Piece, Task, Job, Clone, Copy, volume_of, task_of, clone_of, copy_of}
+use Rattle.vv_flat.specs.Chunks.{touched_indexes, unmapped_in}
+use Rattle.vv_flat.specs.Space.{entries, reserved, allocated_count, is_running, is_running_state, is_clone, is_volume_size}
+use Rattle.vv_flat.specs.Tasks.{record_limit, turn_limit, with_room, started, with_task, advanced, is_last, next_piece, turn_indexes, turned_indexes, job_indexes, cloned_volume, without_clone, without_copy, clone_goes_on, clone_ends, clone_turned, pieces_put, copy_goes_on, copy_ends, copy_turned, job_turned, turned, task_cancelled, cancelled, clone_of_volume, clone_started, with_clone, difference, copy_started, with_copy}
+use Rattle.vv_flat.specs.Profiles.{Misfit}
+use Rattle.vv_flat.specs.Refusals.{Accept, NotFound}
+use Rattle.vv_flat.specs.Changes.{Change, MakeContainer, MakeVolume, DeleteVolume, GrowVolume, SetMetadata, Snapshot, FastClone, Revert, Write, Unmap, SetEndpoints, Bind, Unbind, UnbindAll, StartClone, StartCopy, Turn, Cancel, judge, state_checks, size_of, stamps_of, allocated_of, effect, apply, apply_shape, changed_indexes, new_stamp, with_volume, and_volume}
+use Rattle.vv_flat.proofs.MapLists.{map-same}
+use Rattle.vv_flat.proofs.Sums.{sum-put, sum-removed_found, sum-changed_found}
+use Rattle.vv_flat.proofs.Verdicts.{passed_state, not_refused}
+use Rattle.vv_flat.proofs.Steps.{find-passes}
+use Rattle.vv_flat.proofs.Entries.{length-put_at, length-mapped_from}
+use Rattle.vv_flat.proofs.NothingChanges.{first_removed-same, first_changed-same}
+use Rattle.vv_flat.proofs.Shares.{and_left, and_right}
+use Rattle.vv_flat.proofs.Kept.{Kept}
+use Rattle.vv_flat.proofs.Pool.{is_kept, turn_long}
+use Rattle.vv_laws.specs.Counts.{entries_added, ended_entries, entries_taken, still_reserved, reserved_added, reserved_taken}
+
+-- Sums over lists that are edited, whether or not an item is found.
+
+module _ {A : Type 0} (f : A → ℕ) (p : A → Bool) where
+  removed_sum : (xs : List A) → sum_by f (first_removed p xs) + if_found (find p xs) f 0 ≡ sum_by f xs
+  removed_sum xs = go (find p xs) refl
+    where
+      go : (o : Option A) → find p xs ≡ o → sum_by f (first_removed p xs) + if_found o f 0 ≡ sum_by f xs
+      go None e = ap (λ ys. sum_by f ys + 0) (first_removed-same p xs (ap is_none e)) ∙ omega arith
+      go (Some y) e = sum-removed_found f p y xs e
+
+  changed_sum : (g : A → A) (xs : List A)
+      → sum_by f (first_changed p g xs) + if_found (find p xs) f 0 ≡ sum_by f xs + if_found (find p xs) (λ y. f (g y)) 0
+  changed_sum g xs = go (find p xs) refl
+    where
+      go : (o : Option A) → find p xs ≡ o
+          → sum_by f (first_changed p g xs) + if_found o f 0 ≡ sum_by f xs + if_found o (λ y. f (g y)) 0
+      go None e = ap (λ ys. sum_by f ys + 0) (first_changed-same p g xs (λ x found. let none : ◌≡◌ {A = Option A} None (Some x) = sym e ∙ found in cc))
+      go (Some y) e = sum-changed_found f p g y xs e
+
+-- The entries.
+
+abbrev volume_long : Volume ℕ → ℕ
+volume_long v = length v.chunks
+
+abbrev clone_long : RunningClone ℕ → ℕ
+clone_long c = length c.image + length c.target
+
+abbrev copy_long : RunningCopy ℕ → ℕ
+copy_long c = length c.pieces
+
+size_found : (o : Option (Volume ℕ)) → length (if_found o (λ (v : Volume ℕ). v.chunks) []) ≡ if_found o volume_long 0
+size_found None = refl
+size_found (Some v) = refl
+
+-- e has the entries of d with so many more, and so many fewer
+abbrev Counts : Durable ℕ → Durable ℕ → ℕ → ℕ → Type 0
+Counts d e more less = entries e + less ≡ entries d + more
+
+module _ (d : Durable ℕ) where
+  changed_entries : (n : ℕ) (g : Volume ℕ → Volume ℕ) → entries (with_volume d n g) + if_found (volume_of d n) volume_long 0
+      ≡ entries d + if_found (volume_of d n) (λ v. volume_long (g v)) 0
+  unfolding entries
+  changed_entries n g =
+      let c = changed_sum volume_long (λ (v : Volume ℕ). v.number == n) g d.volumes in
+      omega (arith, c)
+
+  added_entries : (v : Volume ℕ) → entries (and_volume d v) ≡ entries d + length v.chunks
+  unfolding entries
+  added_entries v =
+      let s = sum-put volume_long (λ (w : Volume ℕ). nat_lt v.number w.number) v d.volumes in
+      omega (arith, s)
+
+  same_entries : (n : ℕ) (g : Volume ℕ → Volume ℕ) → ((v : Volume ℕ) → length (g v).chunks ≡ length v.chunks) → Counts d (with_volume d n g) 0 0
+  same_entries n g same = go (volume_of d n) (changed_entries n g)
+    where
+      go : (o : Option (Volume ℕ)) → entries (with_volume d n g) + if_found o volume_long 0 ≡ entries d + if_found o (λ v. volume_long (g v)) 0
+          → Counts d (with_volume d n g) 0 0
+      go None e = e
+      go (Some v) e = let s : length (g v).chunks ≡ length v.chunks = same v in omega (arith, s, e)
+
+abbrev turn_case : {A : Type 0} → Durable ℕ → Option A → (A → Durable ℕ) → (A → ℕ) → Type 0
+turn_case d o h taken = Counts d (if_found o h d) 0 (if_found o taken 0)
+
+of_found : {A : Type 0} (d : Durable ℕ) (o : Option A) (h : A → Durable ℕ) (taken : A → ℕ) → ((x : A) → o ≡ Some x → Counts d (h x) 0 (taken x))
+    → turn_case d o h taken
+of_found d None h taken there = refl
+of_found d (Some x) h taken there = there x refl
+
+of_either : (d : Durable ℕ) (b : Bool) (x y : Durable ℕ) (n m : ℕ) → (b ≡ true → Counts d x 0 n) → (b ≡ false → Counts d y 0 m) → Counts d (cond b x y) 0 (cond b n m)
+of_either d true x y n m h k = h refl
+of_either d false x y n m h k = k refl
+
+module _ (d : Durable ℕ) where
+  clone_ended : (t : Task) (k source : ℕ) (c : RunningClone ℕ) (target : List ℕ) → clone_of d t.number ≡ Some c → length target ≡ length c.target
+      → Counts d (clone_ends d t k source c target) 0 (length c.image)
+  unfolding entries
+  clone_ended t k source c target found same =
+      let v = sum-put volume_long (λ (w : Volume ℕ). nat_lt c.number w.number) (cloned_volume c source target) d.volumes in
+      let r = sum-removed_found clone_long (λ (b : RunningClone ℕ). b.number == t.number) c d.clones found in
+      omega (arith, v, r, same)
+
+  clone_went_on : (t : Task) (k : ℕ) (c : RunningClone ℕ) (target : List ℕ) → clone_of d t.number ≡ Some c → length target ≡ length c.target
+      → Counts d (clone_goes_on d t k target) 0 0
+  unfolding entries
+  clone_went_on t k c target found same =
+      let r = sum-changed_found clone_long (λ (b : RunningClone ℕ). b.number == t.number) (λ b. record b { target = target }) c d.clones found in
+      omega (arith, r, same)
+
+  clone_turn_counts : (values : List ℕ) (t : Task) (source : ℕ)
+      → Counts d (if_found (clone_of d t.number) (clone_turned (λ s. s) values d t source) d) 0
+      (if_found (clone_of d t.number) (λ (c : RunningClone ℕ). cond (is_last t (length (turn_indexes c.image t.done))) (length c.image) 0) 0)
+  clone_turn_counts values t source =
+      of_found d (clone_of d t.number) (clone_turned (λ s. s) values d t source)
+      (λ (c : RunningClone ℕ). cond (is_last t (length (turn_indexes c.image t.done))) (length c.image) 0)
+      (λ c found. let is : List ℕ = turn_indexes (map (λ s. s) c.image) t.done in
+      let target : List ℕ = put_at is values c.target in
+      let long : length target ≡ length c.target = length-put_at is values c.target in
+      ap (λ xs. entries (clone_turned (λ s. s) values d t source c) + cond (is_last t (length (turn_indexes xs t.done))) (length c.image) 0)
+      (sym (map-same (λ s. s) (λ s. refl) c.image))
+      ∙ of_either d (is_last t (length is)) (clone_ends d t (length is) source c target) (clone_goes_on d t (length is) target) (length c.image) 0
+      (λ e. clone_ended t (length is) source c target found long) (λ e. clone_went_on t (length is) c target found long))
+
+  pieces_long : (ps : List (Piece ℕ)) (xs : List ℕ) → length (pieces_put ps xs) ≡ length xs
+  pieces_long ps xs = length-put_at (map (λ (p : Piece ℕ). p.index) ps) (map (λ (p : Piece ℕ). p.chunk) ps) xs
+
+  copy_ended : (t : Task) (target : ℕ) (c : RunningCopy ℕ) → copy_of d t.number ≡ Some c → Counts d (copy_ends d t target c) 0 (length c.pieces)
+  unfolding entries
+  copy_ended t target c found =
+      let v : entries (with_volume d target (λ v. record v { chunks = pieces_put c.pieces v.chunks })) + 0 ≡ entries d + 0 =
+      same_entries d target (λ v. record v { chunks = pieces_put c.pieces v.chunks }) (λ v. pieces_long c.pieces v.chunks) in
+      let r = sum-removed_found copy_long (λ (b : RunningCopy ℕ). b.number == t.number) c d.copies found in
+      omega (arith, v, r)
+
+  copy_turn_counts : (t : Task) (target : ℕ)
+      → Counts d (if_found (copy_of d t.number) (copy_turned d t target) d) 0
+      (if_found (copy_of d t.number) (λ (c : RunningCopy ℕ). cond (is_last t (next_piece t)) (length c.pieces) 0) 0)
+  copy_turn_counts t target =
+      of_found d (copy_of d t.number) (copy_turned d t target) (λ (c : RunningCopy ℕ). cond (is_last t (next_piece t)) (length c.pieces) 0)
+      (λ c found. of_either d (is_last t (next_piece t)) (copy_ends d t target c) (copy_goes_on d t) (length c.pieces) 0
+      (λ e. copy_ended t target c found) (λ e. unfold entries in refl))
+
+  job_counts : (values : List ℕ) (t : Task) (job : Job) → Counts d (job_turned (λ s. s) values d t job) 0 (ended_entries d t job)
+  job_counts values t (Clone source) = clone_turn_counts values t source
+  job_counts values t (Copy source base target) = copy_turn_counts t target
+
+  turn_counts : (values : List ℕ) (n : ℕ) → Counts d (turned (λ s. s) values d n) 0 (entries_taken d (Turn n))
+  unfolding turned
+  turn_counts values n =
+      of_found d (task_of d n) (λ t. cond (is_running t) (job_turned (λ s. s) values d t t.job) d) (λ t. cond (is_running t) (ended_entries d t t.job) 0)
+      (λ t found. of_either d (is_running t) (job_turned (λ s. s) values d t t.job) d (ended_entries d t t.job) 0
+      (λ e. job_counts values t t.job) (λ e. refl))
+
+  cancel_counts : (n : ℕ) → Counts d (cancelled d n) 0 (entries_taken d (Cancel n))
+  unfolding entries cancelled
+  cancel_counts n =
+      let c = removed_sum clone_long (λ (b : RunningClone ℕ). b.number == n) d.clones in
+      let p = removed_sum copy_long (λ (b : RunningCopy ℕ). b.number == n) d.copies in
+      omega (arith, c, p)
+
+some_of : {A : Type 0} (o : Option A) (P : Type 0) → is_none o ≡ false → ((x : A) → o ≡ Some x → P) → P
+some_of None P e h = cc
+some_of (Some x) P e h = h x refl
+
+size_is : (d : Durable ℕ) (n : ℕ) (v : Volume ℕ) → volume_of d n ≡ Some v → size_of d n ≡ length v.chunks
+size_is d n v e = ap (λ o. length (if_found o (λ (w : Volume ℕ). w.chunks) [])) e
+
+chunks_are : (d : Durable ℕ) (n : ℕ) (v : Volume ℕ) → volume_of d n ≡ Some v → stamps_of d n ≡ v.chunks
+chunks_are d n v e = ap (λ o. if_found o (λ (w : Volume ℕ). w.chunks) []) e
+
+changed_to : (d : Durable ℕ) (n : ℕ) (g : Volume ℕ → Volume ℕ) (v : Volume ℕ) → volume_of d n ≡ Some v
+    → entries (with_volume d n g) + length v.chunks ≡ entries d + length (g v).chunks
+changed_to d n g v e =
+    ap (λ o. entries (with_volume d n g) + if_found o volume_long 0) (sym e) ∙ changed_entries d n g
+    ∙ ap (λ o. entries d + if_found o (λ v. volume_long (g v)) 0) e
+
+deleted_counts : (d : Durable ℕ) (n : ℕ) → Counts d (record d { volumes = first_removed (λ (v : Volume ℕ). v.number == n) d.volumes }) 0 (size_of d n)
+unfolding entries
+deleted_counts d n =
+    let r = removed_sum volume_long (λ (v : Volume ℕ). v.number == n) d.volumes in
+    let s : size_of d n ≡ if_found (volume_of d n) volume_long 0 = size_found (volume_of d n) in
+    omega (arith, r, s)
+
+clone_counts : (d : Durable ℕ) (n : ℕ) (v : Volume ℕ) → Counts d (clone_started (λ s. s) 0 d n v) (2 * length v.chunks) 0
+unfolding entries
+clone_counts d n v =
+    let a = sum-put clone_long (λ (c : RunningClone ℕ). nat_lt (d.lsn + 1) c.number) (clone_of_volume 0 (d.lsn + 1) v) d.clones in
+    let l : length {A = ℕ} (replicate (length v.chunks) 0) ≡ length v.chunks = length-replicate (length v.chunks) 0 in
+    omega (arith, a, l)
+
+copy_counts : (d : Durable ℕ) (job : Job) (ps : List (Piece ℕ)) → Counts d (copy_started d job ps) (length ps) 0
+unfolding entries
+copy_counts d job ps =
+    let a = sum-put copy_long (λ (c : RunningCopy ℕ). nat_lt (d.lsn + 1) c.number) (record { number = d.lsn + 1; pieces = ps }) d.copies in
+    omega (arith, a)
+
+-- An accepted change adds and takes so many entries.
+pub entries_go : (misfit : Option Misfit) (d : Durable ℕ) (values : List ℕ) (change : Change) → judge misfit d change ≡ Accept
+    → Counts d (effect (λ s. s) values 0 d change) (entries_added d change) (entries_taken d change)
+unfolding effect state_checks with_clone with_copy
+entries_go misfit d values (MakeContainer quota offers) e = unfold entries in refl
+entries_go misfit d values (MakeVolume k vtype chunks needs) e =
+    let v : Volume ℕ = record { number = d.lsn + 1; container = k; vtype = vtype; kind = Plain; reverted = 0; needs = needs; metadata = []; chunks = replicate chunks 0 } in
+    let a : entries (and_volume d v) ≡ entries d + length {A = ℕ} (replicate chunks 0) = added_entries d v in
+    let l : length {A = ℕ} (replicate chunks 0) ≡ chunks = length-replicate chunks 0 in
+    omega (arith, a, l)
+entries_go misfit d values (DeleteVolume n) e = deleted_counts d n
+entries_go misfit d values (GrowVolume n chunks) e =
+    some_of (volume_of d n) _ (not_refused (is_none (volume_of d n)) (NotFound in_vvol) (passed_state misfit d (GrowVolume n chunks) e 0))
+    (λ v found. let c = changed_to d n (λ v. record v { chunks = v.chunks ++ replicate (chunks - length v.chunks) 0 }) v found in
+    let l : length (v.chunks ++ replicate (chunks - length v.chunks) 0) ≡ length v.chunks + (chunks - length v.chunks) =
+    length-append v.chunks (replicate (chunks - length v.chunks) 0) ∙ ap (λ k. length v.chunks + k) (length-replicate (chunks - length v.chunks) 0) in
+    let s = size_is d n v found in
+    omega (arith, c, l, s))
+entries_go misfit d values (SetMetadata n key text) e = same_entries d n _ (λ v. refl)
+entries_go misfit d values (Snapshot n) e =
+    some_of (volume_of d n) _ (not_refused (is_none (volume_of d n)) (NotFound in_vvol) (passed_state misfit d (Snapshot n) e 0))
+    (λ v found. let w : Volume ℕ = record v { number = d.lsn + 1; kind = SnapshotOf (record { 0 = n }) } in
+    let a = added_entries d w in
+    let s = size_is d n v found in
+    ap (λ o. entries (if_found o (λ v. and_volume d (record v { number = d.lsn + 1; kind = SnapshotOf (record { 0 = n }) })) d) + 0) found
+    ∙ omega (arith, a, s))
+entries_go misfit d values (FastClone n) e =
+    some_of (volume_of d n) _ (not_refused (is_none (volume_of d n)) (NotFound in_vvol) (passed_state misfit d (FastClone n) e 0))
+    (λ v found. let w : Volume ℕ = record v { number = d.lsn + 1; kind = FastCloneOf (record { 0 = n }) } in
+    let a = added_entries d w in
+    let s = size_is d n v found in
+    ap (λ o. entries (if_found o (λ v. and_volume d (record v { number = d.lsn + 1; kind = FastCloneOf (record { 0 = n }) })) d) + 0) found
+    ∙ omega (arith, a, s))
+entries_go misfit d values (Revert n snapshot) e =
+    some_of (volume_of d snapshot) _ (not_refused (is_none (volume_of d snapshot)) (NotFound in_snapshot) (passed_state misfit d (Revert n snapshot) e 1))
+    (λ s at. some_of (volume_of d n) _ (not_refused (is_none (volume_of d n)) (NotFound in_vvol) (passed_state misfit d (Revert n snapshot) e 0))
+    (λ v found. let c = changed_to d n (λ v. record v { chunks = s.chunks; reverted = d.lsn + 1 }) v found in
+    let a = size_is d n v found in
+    let b = size_is d snapshot s at in
+    ap (λ o. entries (if_found o (λ s. with_volume d n (λ v. record v { chunks = s.chunks; reverted = d.lsn + 1 })) d) + size_of d n) at
+    ∙ omega (arith, c, a, b)))
+entries_go misfit d values (Write n first blocks) e = same_entries d n _ (λ v. length-put_at (touched_indexes d.geometry.chunk_blocks first blocks) values v.chunks)
+entries_go misfit d values (Unmap n ranges) e = same_entries d n _ (λ v. length-mapped_from _ 0 v.chunks)
+entries_go misfit d values (SetEndpoints host endpoints) e = unfold entries in refl
+entries_go misfit d values (Bind host n) e = unfold entries in refl
+entries_go misfit d values (Unbind host endpoint secondary) e = unfold entries in refl
+entries_go misfit d values (UnbindAll host) e = unfold entries in refl
+entries_go misfit d values (StartClone n) e =
+    some_of (volume_of d n) _ (not_refused (is_none (volume_of d n)) (NotFound in_vvol) (passed_state misfit d (StartClone n) e 0))
+    (λ v found. ap (λ o. entries (if_found o (clone_started (λ s. s) 0 d n) d) + 0) found ∙ clone_counts d n v
+    ∙ ap (λ k. entries d + 2 * k) (sym (size_is d n v found)))
+entries_go misfit d values (StartCopy source base target) e =
+    some_of (volume_of d source) _ (not_refused (is_none (volume_of d source)) (NotFound in_source) (passed_state misfit d (StartCopy source base target) e 0))
+    (λ v found. some_of (volume_of d base) _ (not_refused (is_none (volume_of d base)) (NotFound in_base) (passed_state misfit d (StartCopy source base target) e 1))
+    (λ w at. let same : length (difference (λ s. s) (stamps_of d source) (stamps_of d base)) ≡ length (difference (λ s. s) v.chunks w.chunks) =
+    ap (λ xs. length (difference (λ s. s) xs (stamps_of d base))) (chunks_are d source v found)
+    ∙ ap (λ xs. length (difference (λ s. s) v.chunks xs)) (chunks_are d base w at) in
+    ap (λ o. entries (if_found o (λ v. if_found (volume_of d base) (λ w. copy_started d (Copy source base target) (difference (λ s. s) v.chunks w.chunks)) d) d) + 0) found
+    ∙ ap (λ o. entries (if_found o (λ w. copy_started d (Copy source base target) (difference (λ s. s) v.chunks w.chunks)) d) + 0) at
+    ∙ copy_counts d (Copy source base target) (difference (λ s. s) v.chunks w.chunks)
+    ∙ ap (λ k. entries d + k) (sym same)))
+entries_go misfit d values (Turn n) e = turn_counts d values n
+entries_go misfit d values (Cancel n) e = cancel_counts d n
+
+pub entries_after : (misfit : Option Misfit) (d : Durable ℕ) (change : Change) → judge misfit d change ≡ Accept
+    → entries (apply_shape d change) + entries_taken d change ≡ entries d + entries_added d change
+unfolding apply_shape apply entries
+entries_after misfit d change e = entries_go misfit d (map (λ _. new_stamp d change) (changed_indexes (λ s. s) d change)) change e

@@ -13,6 +13,7 @@ use Rattle.vv_flat.specs.State.{Durable, Volume, RunningClone, RunningCopy, Piec
 use Rattle.vv_flat.specs.Chunks.{touched_indexes, unmapped_in}
 use Rattle.vv_flat.specs.Space.{entries, reserved, allocated_count, is_running, is_running_state, is_clone, is_volume_size}
 use Rattle.vv_flat.specs.Tasks.{record_limit, turn_limit, with_room, started, with_task, advanced, is_last, next_piece, turn_indexes, turned_indexes, job_indexes, cloned_volume, without_clone, without_copy, clone_goes_on, clone_ends, clone_turned, pieces_put, copy_goes_on, copy_ends, copy_turned, job_turned, turned, task_cancelled, cancelled, clone_of_volume, clone_started, with_clone, difference, copy_started, with_copy}
+use Rattle.vv_flat.specs.Bits.{allocated_indexes}
 use Rattle.vv_flat.specs.Profiles.{Misfit}
 use Rattle.vv_flat.specs.Refusals.{Accept, NotFound}
 use Rattle.vv_flat.specs.Changes.{Change, MakeContainer, MakeVolume, DeleteVolume, GrowVolume, SetMetadata, Snapshot, FastClone, Revert, Write, Unmap, SetEndpoints, Bind, Unbind, UnbindAll, StartClone, StartCopy, Turn, Cancel, judge, state_checks, size_of, stamps_of, allocated_of, effect, apply, apply_shape, changed_indexes, new_stamp, with_volume, and_volume}
@@ -270,3 +271,186 @@ pub entries_after : (misfit : Option Misfit) (d : Durable ℕ) (change : Change)
     → entries (apply_shape d change) + entries_taken d change ≡ entries d + entries_added d change
 unfolding apply_shape apply entries
 entries_after misfit d change e = entries_go misfit d (map (λ _. new_stamp d change) (changed_indexes (λ s. s) d change)) change e
+
+-- The reserved chunks.
+
+abbrev Reserves : Durable ℕ → Durable ℕ → ℕ → ℕ → Type 0
+Reserves d e more less = sum_by still_reserved e.tasks + less ≡ sum_by still_reserved d.tasks + more
+
+found_reserves : {A : Type 0} (d : Durable ℕ) (o : Option A) (h : A → Durable ℕ) → ((x : A) → Reserves d (h x) 0 0) → Reserves d (if_found o h d) 0 0
+found_reserves d None h there = refl
+found_reserves d (Some x) h there = there x
+
+stopped : (t : Task) → not (is_running t) ≡ true → still_reserved t ≡ 0
+stopped t e = go (is_running t) e
+  where
+    go : (b : Bool) → not b ≡ true → cond (b && is_clone t.job) (t.total - t.done) 0 ≡ 0
+    go true f = cc
+    go false f = refl
+
+-- the record that a start drops reserves nothing
+room_reserves : (tasks : List Task) → sum_by still_reserved (with_room tasks) ≡ sum_by still_reserved tasks
+room_reserves tasks = go (nat_le record_limit (length tasks))
+  where
+    none : (o : Option Task) → find (λ t. not (is_running t)) tasks ≡ o → if_found o still_reserved 0 ≡ 0
+    none None e = refl
+    none (Some t) e = stopped t (find-passes (λ t. not (is_running t)) tasks t e)
+
+    go : (b : Bool) → sum_by still_reserved (cond b (first_removed (λ t. not (is_running t)) tasks) tasks) ≡ sum_by still_reserved tasks
+    go true =
+        let r = removed_sum still_reserved (λ t. not (is_running t)) tasks in
+        let z = none (find (λ t. not (is_running t)) tasks) refl in
+        omega (arith, r, z)
+    go false = refl
+
+started_reserves : (tasks : List Task) (t : Task) → sum_by still_reserved (started tasks t) ≡ sum_by still_reserved tasks + still_reserved t
+started_reserves tasks t =
+    let s = sum-put still_reserved (λ (u : Task). nat_lt t.number u.number) t (with_room tasks) in
+    let r = room_reserves tasks in
+    omega (arith, s, r)
+
+-- a clone's record after so many more are copied
+advanced_clone : (t : Task) (k : ℕ) → is_running t ≡ true → is_clone t.job ≡ true → k ≤ t.total - t.done → still_reserved (advanced t k) + k ≡ still_reserved t
+advanced_clone t k runs clone le =
+    let is : still_reserved t ≡ t.total - t.done = ap (λ b. cond (b && is_clone t.job) (t.total - t.done) 0) runs ∙ ap (λ b. cond b (t.total - t.done) 0) clone in
+    go (is_last t k) refl ∙ sym is
+  where
+    go : (b : Bool) → is_last t k ≡ b
+        → cond (is_running_state (cond b Success Running) && is_clone t.job) (t.total - (t.done + k)) 0 + k ≡ t.total - t.done
+    go true e = let all : t.done + k ≡ t.total = eqb-true (t.done + k) t.total e in omega (arith, all)
+    go false e =
+        let more : cond (is_clone t.job) (t.total - (t.done + k)) 0 ≡ t.total - (t.done + k) = ap (λ b. cond b (t.total - (t.done + k)) 0) clone in
+        omega (arith, more, le)
+
+none_of_copy : (t : Task) (k : ℕ) → is_clone t.job ≡ false → still_reserved (advanced t k) ≡ still_reserved t
+none_of_copy t k copy = zero_of (is_running (advanced t k)) (t.total - (t.done + k)) ∙ sym (zero_of (is_running t) (t.total - t.done))
+  where
+    zero_of : (b : Bool) (n : ℕ) → cond (b && is_clone t.job) n 0 ≡ 0
+    zero_of true n = ap (λ c. cond c n 0) copy
+    zero_of false n = refl
+
+module _ (d : Durable ℕ) (rules : Kept d) where
+  advanced_reserves : (t : Task) (k less : ℕ) → task_of d t.number ≡ Some t → still_reserved (advanced t k) + less ≡ still_reserved t
+      → sum_by still_reserved (with_task d.tasks (advanced t k)) + less ≡ sum_by still_reserved d.tasks + 0
+  advanced_reserves t k less found e =
+      let s = sum-changed_found still_reserved (λ (u : Task). u.number == t.number) (λ _. advanced t k) t d.tasks found in
+      omega (arith, s, e)
+
+  either_reserves : (b : Bool) (x y : Durable ℕ) (less : ℕ) → Reserves d x 0 less → Reserves d y 0 less → Reserves d (cond b x y) 0 less
+  either_reserves true x y less h k = h
+  either_reserves false x y less h k = k
+
+  clone_reserves : (values : List ℕ) (t : Task) (source : ℕ) → task_of d t.number ≡ Some t → is_running t ≡ true → is_clone t.job ≡ true
+      → (o : Option (RunningClone ℕ)) → clone_of d t.number ≡ o
+      → Reserves d (if_found o (clone_turned (λ s. s) values d t source) d) 0 (length (if_found o (λ (c : RunningClone ℕ). turn_indexes (map (λ s. s) c.image) t.done) []))
+  clone_reserves values t source found runs clone None e = refl
+  clone_reserves values t source found runs clone (Some c) e =
+      let is : List ℕ = turn_indexes (map (λ s. s) c.image) t.done in
+      let same : allocated_count (map (λ s. s) c.image) ≡ allocated_count c.image = ap allocated_count (map-same (λ s. s) (λ s. refl) c.image) in
+      let total : t.total ≡ allocated_count c.image =
+      eqb-true t.total (allocated_count c.image) (and_left (t.total == allocated_count c.image) _ (and_left _ _ (and_left _ _ (is_kept d t c rules.clones found e)))) in
+      let long : length is ≤ allocated_count (map (λ s. s) c.image) - t.done = turn_long (map (λ s. s) c.image) t.done in
+      let few : length is ≤ t.total - t.done = omega (arith, same, total, long) in
+      let r = advanced_reserves t (length is) (length is) found (advanced_clone t (length is) runs clone few) in
+      either_reserves (is_last t (length is)) (clone_ends d t (length is) source c (put_at is values c.target)) (clone_goes_on d t (length is) (put_at is values c.target)) (length is) r r
+
+  copy_reserves : (t : Task) (target : ℕ) → task_of d t.number ≡ Some t → is_clone t.job ≡ false → (o : Option (RunningCopy ℕ))
+      → Reserves d (if_found o (copy_turned d t target) d) 0 0
+  copy_reserves t target found copy None = refl
+  copy_reserves t target found copy (Some c) =
+      let same : still_reserved (advanced t (next_piece t)) + 0 ≡ still_reserved t = let z = none_of_copy t (next_piece t) copy in omega (arith, z) in
+      let r = advanced_reserves t (next_piece t) 0 found same in
+      either_reserves (is_last t (next_piece t)) (copy_ends d t target c) (copy_goes_on d t) 0 r r
+
+  job_reserves : (values : List ℕ) (t : Task) → task_of d t.number ≡ Some t → is_running t ≡ true → (job : Job) → t.job ≡ job
+      → Reserves d (job_turned (λ s. s) values d t job) 0 (length (job_indexes (λ s. s) d t job))
+  job_reserves values t found runs (Clone source) e = clone_reserves values t source found runs (ap is_clone e) (clone_of d t.number) refl
+  job_reserves values t found runs (Copy source base target) e = copy_reserves t target found (ap is_clone e) (copy_of d t.number)
+
+  turn_reserves : (values : List ℕ) (n : ℕ) → Reserves d (turned (λ s. s) values d n) 0 (length (turned_indexes (λ s. s) d n))
+  unfolding turned turned_indexes
+  turn_reserves values n = of_task (task_of d n) refl
+    where
+      of_run : (t : Task) → task_of d t.number ≡ Some t → (b : Bool) → is_running t ≡ b
+          → Reserves d (cond b (job_turned (λ s. s) values d t t.job) d) 0 (length (cond b (job_indexes (λ s. s) d t t.job) []))
+      of_run t found true runs = job_reserves values t found runs t.job refl
+      of_run t found false runs = refl
+
+      of_task : (o : Option Task) → task_of d n ≡ o
+          → Reserves d (if_found o (λ t. cond (is_running t) (job_turned (λ s. s) values d t t.job) d) d) 0
+          (length (if_found o (λ t. cond (is_running t) (job_indexes (λ s. s) d t t.job) []) []))
+      of_task None e = refl
+      of_task (Some t) e =
+          let number : t.number ≡ n = eqb-true t.number n (find-passes (λ (u : Task). u.number == n) d.tasks t e) in
+          of_run t (ap (λ m. task_of d m) number ∙ e) (is_running t) refl
+
+  cancel_reserves : (n : ℕ) → Reserves d (cancelled d n) 0 (if_found (task_of d n) still_reserved 0)
+  unfolding cancelled
+  cancel_reserves n =
+      let c = changed_sum still_reserved (λ (t : Task). t.number == n) (λ t. record t { state = Cancelled }) d.tasks in
+      let z = none (task_of d n) in
+      omega (arith, c, z)
+    where
+      none : (o : Option Task) → if_found o (λ t. still_reserved (record t { state = Cancelled })) 0 ≡ 0
+      none None = refl
+      none (Some t) = refl
+
+  -- An accepted change adds and takes so many reserved chunks.
+  pub reserved_go : (misfit : Option Misfit) (values : List ℕ) (change : Change) → judge misfit d change ≡ Accept
+      → Reserves d (effect (λ s. s) values 0 d change) (reserved_added d change) (reserved_taken d change)
+  unfolding effect state_checks with_clone with_copy changed_indexes
+  reserved_go misfit values (MakeContainer quota offers) e = refl
+  reserved_go misfit values (MakeVolume k vtype chunks needs) e = refl
+  reserved_go misfit values (DeleteVolume n) e = refl
+  reserved_go misfit values (GrowVolume n chunks) e = refl
+  reserved_go misfit values (SetMetadata n key text) e = refl
+  reserved_go misfit values (Snapshot n) e = found_reserves d (volume_of d n) _ (λ v. refl)
+  reserved_go misfit values (FastClone n) e = found_reserves d (volume_of d n) _ (λ v. refl)
+  reserved_go misfit values (Revert n snapshot) e = found_reserves d (volume_of d snapshot) _ (λ v. refl)
+  reserved_go misfit values (Write n first blocks) e = refl
+  reserved_go misfit values (Unmap n ranges) e = refl
+  reserved_go misfit values (SetEndpoints host endpoints) e = refl
+  reserved_go misfit values (Bind host n) e = refl
+  reserved_go misfit values (Unbind host endpoint secondary) e = refl
+  reserved_go misfit values (UnbindAll host) e = refl
+  reserved_go misfit values (StartClone n) e =
+      some_of (volume_of d n) _ (not_refused (is_none (volume_of d n)) (NotFound in_vvol) (passed_state misfit d (StartClone n) e 0))
+      (λ v found. let t : Task = record { number = d.lsn + 1; job = Clone n; state = Running; done = 0; total = allocated_count (map (λ s. s) v.chunks) } in
+      let s = started_reserves d.tasks t in
+      let same : allocated_count (map (λ s. s) v.chunks) ≡ allocated_of d n =
+      ap allocated_count (map-same (λ s. s) (λ s. refl) v.chunks ∙ sym (chunks_are d n v found)) in
+      ap (λ o. sum_by still_reserved (if_found o (clone_started (λ s. s) 0 d n) d).tasks + 0) found ∙ omega (arith, s, same))
+  reserved_go misfit values (StartCopy source base target) e =
+      found_reserves d (volume_of d source) _
+      (λ v. found_reserves d (volume_of d base) (λ w. copy_started d (Copy source base target) (difference (λ s. s) v.chunks w.chunks))
+      (λ w. let s = started_reserves d.tasks (record { number = d.lsn + 1; job = Copy source base target; state = Running; done = 0; total = length (difference (λ s. s) v.chunks w.chunks) }) in
+      omega (arith, s)))
+  reserved_go misfit values (Turn n) e = turn_reserves values n
+  reserved_go misfit values (Cancel n) e = cancel_reserves n
+
+  pub reserved_after : (misfit : Option Misfit) (change : Change) → judge misfit d change ≡ Accept
+      → reserved (apply_shape d change) + reserved_taken d change ≡ reserved d + reserved_added d change
+  unfolding apply_shape apply reserved
+  reserved_after misfit change e = reserved_go misfit (map (λ _. new_stamp d change) (changed_indexes (λ s. s) d change)) change e
+
+-- A turn copies 16 chunks at most.
+pub turn_at_most : {X : Type 0} (stamp_of : X → ℕ) (d : Durable X) (n : ℕ) → length (turned_indexes stamp_of d n) ≤ 16
+unfolding turned_indexes
+turn_at_most {X} stamp_of d n = of_task (task_of d n)
+  where
+    indexes : (t : Task) (o : Option (RunningClone X)) → length (if_found o (λ (c : RunningClone X). turn_indexes (map stamp_of c.image) t.done) []) ≤ 16
+    indexes t None = omega arith
+    indexes t (Some c) =
+        let l = length-take 16 (drop t.done (allocated_indexes (map stamp_of c.image))) in omega (arith, l)
+
+    of_job : (t : Task) (job : Job) → length (job_indexes stamp_of d t job) ≤ 16
+    of_job t (Clone source) = indexes t (clone_of d t.number)
+    of_job t (Copy source base target) = omega arith
+
+    of_run : (t : Task) (b : Bool) → length (cond b (job_indexes stamp_of d t t.job) []) ≤ 16
+    of_run t true = of_job t t.job
+    of_run t false = omega arith
+
+    of_task : (o : Option Task) → length (if_found o (λ t. cond (is_running t) (job_indexes stamp_of d t t.job) []) []) ≤ 16
+    of_task None = omega arith
+    of_task (Some t) = of_run t (is_running t)

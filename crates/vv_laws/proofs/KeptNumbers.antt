@@ -4,13 +4,17 @@ use Rattle.std.specs.Prelude.{Option, Some, None, is_none, nat_lt, nat_le, sum_b
 use Rattle.std.specs.List.{find}
 use Rattle.std.proofs.lemmas.List.{length-append, length-replicate}
 use Rattle.std.proofs.lemmas.List.Sums.{sum_by-cons}
-use Rattle.std.proofs.lemmas.Bool.{eqb-true, leb-true, ltb-false, or_parts}
+use Rattle.std.proofs.lemmas.Bool.{eqb-true, eqb-false}
+use Rattle.std.proofs.lemmas.Bool.Decides.{nat_tests}
+use Rattle.std.proofs.lemmas.Nat.{div_below, le-div}
+use Rattle.std.proofs.Math.Nat.{add-mul, div-mul-le_self, lt-div-mul-add}
+use Rattle.vv_units.specs.Sizes.{is_chunk_size}
 use Rattle.vv_units.specs.declared.volume.TaskState.TheVariants.{Running, Success, Cancelled}
 use Rattle.vv_units.specs.declared.volume.VolumeKind.TheVariants.{Plain, SnapshotOf, FastCloneOf}
 use Rattle.vv_units.specs.declared.field.Field.TheVariants.{Vvol as in_vvol, Snapshot as in_snapshot, Source as in_source, Base as in_base}
-use Rattle.vv_flat.specs.Lists.{if_found, first_changed, put_before, first_removed, put_at}
+use Rattle.vv_flat.specs.Lists.{if_found, first_changed, put_before, first_removed, put_at, numbers_from}
 use Rattle.vv_flat.specs.State.{Durable, Volume, RunningClone, RunningCopy, Piece, Task, Job, Clone, Copy, volume_of, task_of, clone_of, copy_of}
-use Rattle.vv_flat.specs.Chunks.{touched_indexes, unmapped_in}
+use Rattle.vv_flat.specs.Chunks.{touched_first, touched_count, touched_indexes, unmapped_in}
 use Rattle.vv_flat.specs.Space.{entries, reserved, allocated_count, is_running, is_running_state, is_clone, is_volume_size}
 use Rattle.vv_flat.specs.Tasks.{record_limit, turn_limit, with_room, started, with_task, advanced, is_last, next_piece, turn_indexes, turned_indexes, job_indexes, cloned_volume, without_clone, without_copy, clone_goes_on, clone_ends, clone_turned, pieces_put, copy_goes_on, copy_ends, copy_turned, job_turned, turned, task_cancelled, cancelled, clone_of_volume, clone_started, with_clone, difference, copy_started, with_copy}
 use Rattle.vv_flat.specs.Bits.{allocated_indexes}
@@ -24,8 +28,10 @@ use Rattle.vv_flat.proofs.Steps.{find-passes}
 use Rattle.vv_flat.proofs.Entries.{length-put_at, length-mapped_from}
 use Rattle.vv_flat.proofs.NothingChanges.{first_removed-same, first_changed-same}
 use Rattle.vv_flat.proofs.Shares.{and_left, and_right}
-use Rattle.vv_flat.proofs.Kept.{Kept}
+use Rattle.vv_flat.specs.WellFormed.{is_well_formed_shape}
+use Rattle.vv_flat.proofs.Kept.{Kept, kept}
 use Rattle.vv_flat.proofs.Pool.{is_kept, turn_long}
+use Rattle.vv_laws.proofs.Planning.{length-numbers}
 use Rattle.vv_laws.specs.Counts.{entries_added, ended_entries, entries_taken, still_reserved, reserved_added, reserved_taken}
 
 -- Sums over lists that are edited, whether or not an item is found.
@@ -454,3 +460,32 @@ turn_at_most {X} stamp_of d n = of_task (task_of d n)
     of_task : (o : Option Task) → length (if_found o (λ t. cond (is_running t) (job_indexes stamp_of d t t.job) []) []) ≤ 16
     of_task None = omega arith
     of_task (Some t) = of_run t (is_running t)
+
+pub reserved_well : (misfit : Option Misfit) (d : Durable ℕ) (change : Change) → is_well_formed_shape d ≡ true → judge misfit d change ≡ Accept
+    → reserved (apply_shape d change) + reserved_taken d change ≡ reserved d + reserved_added d change
+unfolding is_well_formed_shape
+reserved_well misfit d change well e = reserved_after d (kept d (and_left _ _ well)) misfit change e
+
+eight_blocks : (B : ℕ) → is_chunk_size B ≡ true → 8 ≤ B
+eight_blocks B e = grind (arith, nat_tests)
+
+-- A write touches few chunks.
+pub write_touches : (B first blocks : ℕ) → is_chunk_size B ≡ true → 1 ≤ blocks → blocks ≤ 2048
+    → (1 ≤ length (touched_indexes B first blocks)) × (length (touched_indexes B first blocks) ≤ 257)
+write_touches B first blocks size least most = go (blocks == 0) refl
+  where
+    go : (b : Bool) → (blocks == 0) ≡ b
+        → (1 ≤ length (cond b [] (numbers_from (touched_first B first) (touched_count B first blocks))))
+        × (length (cond b [] (numbers_from (touched_first B first) (touched_count B first blocks))) ≤ 257)
+    go true is = let none : blocks ≡ 0 = eqb-true blocks 0 is in absurd (omega arith)
+    go false is =
+        let eight : 8 ≤ B = eight_blocks B size in
+        let some : 0 < B = omega arith in
+        let front : first / B * B ≤ first = div-mul-le_self first B in
+        let order : first / B ≤ (first + blocks - 1) / B = le-div (first / B) (first + blocks - 1) B some (omega arith) in
+        let start : first < first / B * B + B = lt-div-mul-add some in
+        let times : (first / B + 257) * B ≡ first / B * B + 257 * B = add-mul (first / B) 257 B in
+        let last : (first + blocks - 1) / B < first / B + 257 = div_below (first + blocks - 1) B (first / B + 257) some (omega (arith, start, times, eight, most)) in
+        let long : length (numbers_from (touched_first B first) (touched_count B first blocks)) ≡ touched_count B first blocks =
+        length-numbers (touched_first B first) (touched_count B first blocks) in
+        (omega (arith, order, long), omega (arith, last, long))

@@ -5,6 +5,7 @@
 mod answers;
 mod arrays;
 mod contents;
+mod counts;
 mod logs;
 mod plans;
 mod units;
@@ -23,6 +24,7 @@ pub use arrays::{
 pub use contents::{
     a_record_does_its_call_in_another_content, filled_tables_have_the_shape_of_the_tables, only_named_places_count,
 };
+pub use counts::{a_turn_copies_few_chunks, a_write_touches_few_chunks, entries_go_by_the_change, reserved_chunks_go_by_the_change};
 pub use logs::{
     a_log_goes_on_where_its_front_ended, a_log_stops_at_the_first_unfit_record, each_record_takes_a_log_number,
     one_more_record_is_one_more_step, replayed_tables_are_well_formed,

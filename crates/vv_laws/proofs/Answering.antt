@@ -1,17 +1,17 @@
 -- How changes are answered: the profile's misfit can only refuse more, and the answer goes by the shape.
-use Rattle.std.proofs.Common.{◌≡◌, ℕ, ◌&&◌, refl, ap, sym, ◌∙◌, Bool, true, false, cond, List, [], ◌∷◌, map}
+use Rattle.std.proofs.Common.{◌≡◌, ℕ, refl, ap, sym, ◌∙◌, Bool, true, false, cond, List, [], ◌∷◌}
 use Rattle.std.specs.Prelude.{Option, Some, None}
 use Rattle.vv_flat.specs.Lists.{if_found}
 use Rattle.vv_flat.specs.State.{Durable, Volatile, Array, map_durable}
-use Rattle.vv_flat.specs.Chunks.{ChunkValue, Entry, shape, shape_of_tables, filled, filled_tables}
+use Rattle.vv_flat.specs.Chunks.{ChunkValue, Entry, shape, filled, filled_tables}
 use Rattle.vv_flat.specs.Profiles.{Capability, Misfit}
-use Rattle.vv_flat.specs.Refusals.{Refusal, Verdict, Refuse, Nothing, Accept, first_refusal, exhausted, misfits, map_full}
-use Rattle.vv_flat.specs.Changes.{Change, MakeContainer, MakeVolume, DeleteVolume, GrowVolume, SetMetadata, Snapshot, FastClone, Revert, Write, Unmap, SetEndpoints, Bind, Unbind, UnbindAll, StartClone, StartCopy, Turn, Cancel, judge, misfit_in, room_checks, state_checks, changes_nothing, too_many_volumes, apply_shape}
+use Rattle.vv_flat.specs.Refusals.{Refusal, Refuse, Nothing, Accept, first_refusal, exhausted, misfits, map_full}
+use Rattle.vv_flat.specs.Changes.{Change, MakeContainer, MakeVolume, DeleteVolume, GrowVolume, SetMetadata, Snapshot, FastClone, Revert, Write, Unmap, SetEndpoints, Bind, Unbind, UnbindAll, StartClone, StartCopy, Turn, Cancel, judge, misfit_in, room_checks, state_checks, changes_nothing, too_many_volumes}
 use Rattle.vv_flat.specs.Replay.{is_accepted}
-use Rattle.vv_flat.specs.Flat.{has_its_bytes, flat_after, array_after}
+use Rattle.vv_flat.specs.Flat.{has_its_bytes, array_after}
 use Rattle.vv_flat.specs.Fields.{change_has_forms}
 use Rattle.vv_flat.specs.WellFormed.{is_well_formed_shape}
-use Rattle.vv_flat.specs.Answers.{answer_over, answer, answer_of_tables, next}
+use Rattle.vv_flat.specs.Answers.{answer, answer_of_tables, next}
 use Rattle.vv_flat.proofs.Steps.{flat_step}
 use Rattle.vv_flat.proofs.KeepRules.{accepted_is}
 use Rattle.vv_laws.proofs.KeepForms.{well_formed_stays}

@@ -1,14 +1,14 @@
 -- What a command to a bound volume finds: the volume stands, nothing is to change it, and so a write or an UNMAP that
 -- its unit lets through passes the checks of names and of state.
-use Rattle.std.proofs.Common.{◌≡◌, ◌≤◌, ◌<◌, ℕ, ◌+◌, ◌-◌, ◌*◌, ◌/◌, ◌==◌, ◌&&◌, ◌||◌, not, refl, ap, sym, ◌∙◌, Bool, true, false, cond, List, [], ◌∷◌, map, length, arith}
+use Rattle.std.proofs.Common.{◌≡◌, ◌≤◌, ℕ, ◌+◌, ◌-◌, ◌*◌, ◌/◌, ◌==◌, ◌||◌, not, refl, ap, sym, ◌∙◌, Bool, true, false, cond, List, [], ◌∷◌, arith}
 use Rattle.std.specs.Prelude.{Option, Some, None, is_some, is_none, nat_lt, nat_le}
-use Rattle.std.specs.List.{find, filter, list_all, list_any}
-use Rattle.std.proofs.lemmas.Bool.{eqb-true, or_parts, ltb-false, leb-true, le-leb, not-true}
+use Rattle.std.specs.List.{find, list_all, list_any}
+use Rattle.std.proofs.lemmas.Bool.{eqb-true, or_parts, ltb-false, not-true}
 use Rattle.std.proofs.lemmas.Bool.Decides.{nat_tests}
 use Rattle.std.proofs.Math.Nat.{div-le_of_le-mul}
 use Rattle.std.proofs.Math.Nat.{mul_comm}
 use Rattle.vv_flat.specs.Lists.{if_found}
-use Rattle.vv_flat.specs.State.{Volume, Address, Binding, Task, Durable, volume_of}
+use Rattle.vv_flat.specs.State.{Address, Binding, Task, Durable, volume_of}
 use Rattle.vv_flat.specs.Chunks.{volume_blocks, whole_chunks, unmap_ranges}
 use Rattle.vv_flat.specs.Space.{running_target}
 use Rattle.vv_flat.specs.Bindings.{is_address, binding_at, is_bound}

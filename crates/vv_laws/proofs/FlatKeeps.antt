@@ -1,11 +1,11 @@
 -- What an accepted change keeps of a flat array: stamps were given by the log, and tell the bytes of chunks.
-use Rattle.std.proofs.Common.{◌≡◌, ◌≤◌, ◌<◌, ℕ, ◌+◌, ◌==◌, ◌&&◌, ◌||◌, not, refl, ap, sym, ◌∙◌, Bool, true, false, cond, List, [], ◌∷◌, ◌++◌, map, arith}
+use Rattle.std.proofs.Common.{◌≡◌, ◌≤◌, ◌<◌, ℕ, ◌+◌, ◌==◌, ◌&&◌, ◌||◌, not, refl, ap, sym, ◌∙◌, Bool, true, false, List, [], ◌∷◌, arith}
 use Rattle.std.specs.Prelude.{Option, Some, None, nat_lt, nat_le}
 use Rattle.std.specs.List.{list_all}
 use Rattle.std.specs.Str.{bytes_eq}
 use Rattle.std.proofs.lemmas.Bool.{not-true, ltb-true, leb-true, le-leb, eqb-true, eq-eqb, ne_eqb}
 use Rattle.std.proofs.lemmas.Slice.Eq.{bytes_eq-Decides}
-use Rattle.vv_flat.specs.Lists.{if_found, all_above, all_rising}
+use Rattle.vv_flat.specs.Lists.{if_found, all_rising}
 use Rattle.vv_flat.specs.State.{Durable, Volume, RunningClone, RunningCopy, Piece, indexed, all_pieces}
 use Rattle.vv_flat.specs.Chunks.{ChunkValue}
 use Rattle.vv_flat.specs.Sharing.{is_told_by_stamp}
@@ -14,7 +14,7 @@ use Rattle.vv_flat.specs.FlatForm.{is_given}
 use Rattle.vv_flat.specs.Changes.{Change, effect, changed_indexes, new_stamp}
 use Rattle.vv_flat.proofs.Shares.{and_left, and_right, and_both, list_all-follows, list_all-both}
 use Rattle.vv_flat.proofs.NewEntries.{all-always, all-swap, eq_turn, above_each, above_rises}
-use Rattle.vv_laws.proofs.Standing.{AllPass, Kept, new_home, pieces_at, stays_right}
+use Rattle.vv_laws.proofs.Standing.{AllPass, new_home, pieces_at, stays_right}
 use Rattle.vv_laws.proofs.NewStamps.{New, Clones, misses, weaker, pieces_pass, pass_pieces, new_of}
 
 -- what holds of all values at some indexes

@@ -1,7 +1,7 @@
 -- An accepted change whose fields have their forms keeps the forms of all fields.
-use Rattle.std.proofs.Common.{◌≡◌, ◌≤◌, ◌<◌, ℕ, zero, suc, ◌+◌, ◌-◌, ◌^◌, ◌==◌, ◌&&◌, ◌||◌, not, refl, ap, sym, ◌∙◌, Bool, true, false, cond, List, [], ◌∷◌, ◌++◌, map, length, replicate, arith}
-use Rattle.std.specs.Prelude.{Option, Some, None, is_some, is_none, unwrap_or, slice_index, nat_le, nat_lt, min}
-use Rattle.std.specs.List.{find, filter, list_all, list_any}
+use Rattle.std.proofs.Common.{◌≡◌, ◌≤◌, ◌<◌, ℕ, zero, suc, ◌+◌, ◌-◌, ◌^◌, ◌==◌, ◌&&◌, ◌||◌, not, refl, ap, sym, ◌∙◌, Bool, true, false, cond, List, [], ◌∷◌, map, length, replicate, arith}
+use Rattle.std.specs.Prelude.{Option, Some, None, is_some, is_none, unwrap_or, slice_index, nat_le, nat_lt}
+use Rattle.std.specs.List.{find, list_all, list_any}
 use Rattle.std.specs.Str.{bytes_eq}
 use Rattle.std.proofs.lemmas.Bool.{lt-ltb, ltb-true, le-leb, leb-true, eqb-true, or_parts, not-true}
 use Rattle.std.proofs.lemmas.List.Sums.{count_by-le-length}
@@ -11,23 +11,23 @@ use Rattle.vv_units.specs.Names.{is_key, is_note}
 use Rattle.vv_units.specs.Sizes.{volume_chunks_limit}
 use Rattle.vv_units.specs.declared.volume.TaskState.TheVariants.{Running, Cancelled}
 use Rattle.vv_units.specs.declared.volume.VolumeKind.TheVariants.{Plain, SnapshotOf, FastCloneOf}
-use Rattle.vv_units.specs.declared.field.Field.TheVariants.{Vvol as in_vvol, Source as in_source, Base as in_base, Target as in_target}
+use Rattle.vv_units.specs.declared.field.Field.TheVariants.{Target as in_target}
 use Rattle.vv_units.specs.declared.field.Field.{Field}
 use Rattle.vv_flat.specs.Lists.{if_found, first_changed, put_before, first_removed, put_at, numbers_from}
-use Rattle.vv_flat.specs.State.{Container, Volume, Context, Address, Binding, Job, Clone, Copy, Task, RunningClone, Piece, RunningCopy, Durable, volume_of, task_of, clone_of, copy_of, indexed}
+use Rattle.vv_flat.specs.State.{Container, Volume, Context, Address, Binding, Job, Clone, Copy, Task, RunningClone, Piece, Durable, volume_of, task_of, clone_of, copy_of, indexed}
 use Rattle.vv_flat.specs.Space.{allocated_count, is_running}
 use Rattle.vv_flat.specs.Bits.{is_unshared}
 use Rattle.vv_flat.specs.Bindings.{context_of, was_set, endpoints_of, with_context, binding_at, binding_of, is_binding_of, is_address, is_below, free_secondary, new_address, with_binding, count_left, without_binding, is_of_host, without_host}
-use Rattle.vv_flat.specs.Tasks.{record_limit, with_room, started, with_task, advanced, is_last, next_piece, turn_limit, turn_indexes, cloned_volume, without_clone, clone_goes_on, clone_ends, clone_turned, copy_goes_on, copy_ends, pieces_put, copy_turned, job_turned, turned, task_cancelled, cancelled, clone_of_volume, clone_started, with_clone, difference, copy_started, with_copy}
+use Rattle.vv_flat.specs.Tasks.{record_limit, with_room, started, with_task, advanced, is_last, next_piece, turn_indexes, cloned_volume, clone_goes_on, clone_ends, clone_turned, copy_goes_on, copy_ends, pieces_put, copy_turned, job_turned, turned, cancelled, clone_of_volume, clone_started, with_clone, difference, copy_started, with_copy}
 use Rattle.vv_flat.specs.Profiles.{Misfit}
 use Rattle.vv_flat.specs.Refusals.{Accept, NotFound, last_lsn, missing_volume}
-use Rattle.vv_flat.specs.Rules.{numbers_rule, limits_rule, clones_rule, is_logged, is_clone_kept, is_host, endpoint_limit, offer_limit, need_limit, keeps_shape_rules, has_its_fields}
-use Rattle.vv_flat.specs.Changes.{Change, MakeContainer, MakeVolume, DeleteVolume, GrowVolume, SetMetadata, Snapshot, FastClone, Revert, Write, Unmap, SetEndpoints, Bind, Unbind, UnbindAll, StartClone, StartCopy, Turn, Cancel, binding_limit, judge, state_checks, room_checks, effect, apply, apply_shape, changed_indexes, new_stamp, with_volume, and_volume}
+use Rattle.vv_flat.specs.Rules.{numbers_rule, limits_rule, is_logged, offer_limit, need_limit, keeps_shape_rules, has_its_fields}
+use Rattle.vv_flat.specs.Changes.{Change, MakeContainer, MakeVolume, DeleteVolume, GrowVolume, SetMetadata, Snapshot, FastClone, Revert, Write, Unmap, SetEndpoints, Bind, Unbind, UnbindAll, StartClone, StartCopy, Turn, Cancel, binding_limit, judge, state_checks, effect, apply, apply_shape, changed_indexes, new_stamp, with_volume, and_volume}
 use Rattle.vv_flat.specs.Fields.{is_number, texts_differ, are_offers, are_needs, are_pairs, are_endpoints, is_job, have_forms, is_optional_note, change_has_forms}
 use Rattle.vv_flat.specs.WellFormed.{is_well_formed_shape}
 use Rattle.vv_flat.proofs.MapLists.{map-same}
-use Rattle.vv_flat.proofs.Shares.{and_left, and_right, and_both, list_all-follows}
-use Rattle.vv_flat.proofs.Verdicts.{passed_state, passed_room, not_refused}
+use Rattle.vv_flat.proofs.Shares.{and_left, and_right, and_both}
+use Rattle.vv_flat.proofs.Verdicts.{passed_state, not_refused}
 use Rattle.vv_flat.proofs.Steps.{find-passes}
 use Rattle.vv_flat.proofs.Entries.{length-mapped_from}
 use Rattle.vv_flat.proofs.Known.{all-put, all-removed, all-changed, all-found, all-filter}

@@ -1,10 +1,9 @@
 -- What an accepted change adds to the entries and to the reserved chunks, and what it takes from them.
-use Rattle.std.proofs.Common.{◌≡◌, ◌≤◌, ◌<◌, ℕ, zero, suc, ◌+◌, ◌-◌, ◌*◌, ◌/◌, ◌==◌, ◌&&◌, ◌||◌, not, refl, ap, sym, ◌∙◌, Bool, true, false, cond, List, [], ◌∷◌, ◌++◌, map, length, replicate, take, drop, arith, length-take}
-use Rattle.std.specs.Prelude.{Option, Some, None, is_none, nat_lt, nat_le, sum_by, min}
+use Rattle.std.proofs.Common.{◌≡◌, ◌≤◌, ◌<◌, ℕ, ◌+◌, ◌-◌, ◌*◌, ◌/◌, ◌==◌, ◌&&◌, not, refl, ap, sym, ◌∙◌, Bool, true, false, cond, List, [], ◌++◌, map, length, replicate, drop, arith, length-take}
+use Rattle.std.specs.Prelude.{Option, Some, None, is_none, nat_lt, nat_le, sum_by}
 use Rattle.std.specs.List.{find}
 use Rattle.std.proofs.lemmas.List.{length-append, length-replicate}
-use Rattle.std.proofs.lemmas.List.Sums.{sum_by-cons}
-use Rattle.std.proofs.lemmas.Bool.{eqb-true, eqb-false}
+use Rattle.std.proofs.lemmas.Bool.{eqb-true}
 use Rattle.std.proofs.lemmas.Bool.Decides.{nat_tests}
 use Rattle.std.proofs.lemmas.Nat.{div_below, le-div}
 use Rattle.std.proofs.Math.Nat.{add-mul, div-mul-le_self, lt-div-mul-add}
@@ -12,11 +11,11 @@ use Rattle.vv_units.specs.Sizes.{is_chunk_size}
 use Rattle.vv_units.specs.declared.volume.TaskState.TheVariants.{Running, Success, Cancelled}
 use Rattle.vv_units.specs.declared.volume.VolumeKind.TheVariants.{Plain, SnapshotOf, FastCloneOf}
 use Rattle.vv_units.specs.declared.field.Field.TheVariants.{Vvol as in_vvol, Snapshot as in_snapshot, Source as in_source, Base as in_base}
-use Rattle.vv_flat.specs.Lists.{if_found, first_changed, put_before, first_removed, put_at, numbers_from}
+use Rattle.vv_flat.specs.Lists.{if_found, first_changed, first_removed, put_at, numbers_from}
 use Rattle.vv_flat.specs.State.{Durable, Volume, RunningClone, RunningCopy, Piece, Task, Job, Clone, Copy, volume_of, task_of, clone_of, copy_of}
-use Rattle.vv_flat.specs.Chunks.{touched_first, touched_count, touched_indexes, unmapped_in}
-use Rattle.vv_flat.specs.Space.{entries, reserved, allocated_count, is_running, is_running_state, is_clone, is_volume_size}
-use Rattle.vv_flat.specs.Tasks.{record_limit, turn_limit, with_room, started, with_task, advanced, is_last, next_piece, turn_indexes, turned_indexes, job_indexes, cloned_volume, without_clone, without_copy, clone_goes_on, clone_ends, clone_turned, pieces_put, copy_goes_on, copy_ends, copy_turned, job_turned, turned, task_cancelled, cancelled, clone_of_volume, clone_started, with_clone, difference, copy_started, with_copy}
+use Rattle.vv_flat.specs.Chunks.{touched_first, touched_count, touched_indexes}
+use Rattle.vv_flat.specs.Space.{entries, reserved, allocated_count, is_running, is_running_state, is_clone}
+use Rattle.vv_flat.specs.Tasks.{record_limit, with_room, started, with_task, advanced, is_last, next_piece, turn_indexes, turned_indexes, job_indexes, cloned_volume, clone_goes_on, clone_ends, clone_turned, pieces_put, copy_goes_on, copy_ends, copy_turned, job_turned, turned, cancelled, clone_of_volume, clone_started, with_clone, difference, copy_started, with_copy}
 use Rattle.vv_flat.specs.Bits.{allocated_indexes}
 use Rattle.vv_flat.specs.Profiles.{Misfit}
 use Rattle.vv_flat.specs.Refusals.{Accept, NotFound}
@@ -27,7 +26,7 @@ use Rattle.vv_flat.proofs.Verdicts.{passed_state, not_refused}
 use Rattle.vv_flat.proofs.Steps.{find-passes}
 use Rattle.vv_flat.proofs.Entries.{length-put_at, length-mapped_from}
 use Rattle.vv_flat.proofs.NothingChanges.{first_removed-same, first_changed-same}
-use Rattle.vv_flat.proofs.Shares.{and_left, and_right}
+use Rattle.vv_flat.proofs.Shares.{and_left}
 use Rattle.vv_flat.specs.WellFormed.{is_well_formed_shape}
 use Rattle.vv_flat.proofs.Kept.{Kept, kept}
 use Rattle.vv_flat.proofs.Pool.{is_kept, turn_long}

@@ -14,3 +14,4 @@ pub mod FlatKeeps
 pub mod WellFormedArrays
 pub mod VolatileForms
 pub mod KeptNumbers
+pub mod FilledArrays

@@ -1,10 +1,10 @@
 -- What is known of the stamps of an array, and of the new ones of a change: they were given by the log, and a new stamp
 -- stands nowhere yet at its index. This is said of any kind of chunk.
 use Rattle.std.proofs.Common.{◌≡◌, ◌≤◌, ℕ, ◌+◌, ◌==◌, ◌&&◌, ◌||◌, not, refl, ap, sym, ◌∙◌, subst, Bool, true, false, cond, List, [], ◌∷◌, ◌++◌, map, take, drop, arith}
-use Rattle.std.specs.Prelude.{Option, Some, None, nat_lt, nat_le, count_by}
+use Rattle.std.specs.Prelude.{Option, Some, None, nat_le}
 use Rattle.std.specs.List.{filter, flat_map, list_all}
 use Rattle.std.proofs.lemmas.List.Folds.{list_all-map, list_all-append}
-use Rattle.std.proofs.lemmas.Bool.{not-true, leb-true, le-leb, eqb-true, eqb-false, ne_eqb, and_right as and_false}
+use Rattle.std.proofs.lemmas.Bool.{leb-true, le-leb, eqb-true, eqb-false, ne_eqb, and_right as and_false}
 use Rattle.std.proofs.lemmas.Slice.Eq.{bytes_eq-Decides}
 use Rattle.vv_flat.specs.Lists.{if_found, mapped_from, indexes_from, all_rising}
 use Rattle.vv_flat.specs.State.{Durable, Volume, RunningClone, RunningCopy, Piece, Task, Job, Clone, Copy, map_clone, map_durable, indexed, all_pieces, clone_of, task_of}
@@ -15,8 +15,8 @@ use Rattle.vv_flat.specs.Space.{is_running, is_clone}
 use Rattle.vv_flat.specs.Bits.{allocated_indexes}
 use Rattle.vv_flat.specs.Tasks.{turned_indexes, job_indexes, turn_indexes, turn_limit}
 use Rattle.vv_flat.specs.Form.{is_formed}
-use Rattle.vv_flat.specs.Rules.{is_logged, numbers_rule, clones_rule, is_clone_kept, keeps_shape_rules}
-use Rattle.vv_flat.specs.Changes.{Change, MakeContainer, MakeVolume, DeleteVolume, GrowVolume, SetMetadata, Snapshot, FastClone, Revert, Write, Unmap, SetEndpoints, Bind, Unbind, UnbindAll, StartClone, StartCopy, Turn, Cancel, effect, apply, changed_indexes, new_stamp}
+use Rattle.vv_flat.specs.Rules.{is_logged, numbers_rule, clones_rule, is_clone_kept}
+use Rattle.vv_flat.specs.Changes.{Change, MakeContainer, MakeVolume, DeleteVolume, GrowVolume, SetMetadata, Snapshot, FastClone, Revert, Write, Unmap, SetEndpoints, Bind, Unbind, UnbindAll, StartClone, StartCopy, Turn, Cancel, effect, changed_indexes, new_stamp}
 use Rattle.vv_flat.proofs.MapLists.{map-after}
 use Rattle.vv_flat.proofs.MapDurable.{map-clone_of}
 use Rattle.vv_flat.proofs.Steps.{find-passes}
@@ -363,4 +363,3 @@ module _ {X : Type 0} (stamp_of : X → ℕ) (u : X) (d : Durable X) (clones : C
           let clone : clone_of d t.number ≡ Some c = ap (λ k. clone_of d k) number ∙ at in
           subst (λ k. New X stamp_of d left k (Some k) (turn_indexes (map stamp_of c.image) t.done)) number (turn_new left t c task clone)
   new_of values (Cancel n) = none_new stamp_of d _ _ _
-

@@ -5,7 +5,6 @@ use Rattle.std.specs.List.{filter, find, list_all, list_any}
 use Rattle.std.proofs.lemmas.List.Sums.{length-filter}
 use Rattle.std.proofs.lemmas.List.Filters.{length-filter_both}
 use Rattle.std.proofs.lemmas.Bool.{lt-ltb, ltb-true, leb-true, eqb-true, eq-eqb, ne_eqb}
-use Rattle.std.proofs.lemmas.Bool.Decides.{nat_tests}
 use Rattle.vv_flat.specs.Lists.{if_found, numbers_from, all_different, all_rising}
 use Rattle.vv_flat.specs.State.{Durable, RunningClone, Task, Job, Clone, Copy, clone_of, task_of, all_pieces}
 use Rattle.vv_flat.specs.Chunks.{Entry, shape_of_tables, touched_indexes}
@@ -15,7 +14,7 @@ use Rattle.vv_flat.specs.Profiles.{Misfit}
 use Rattle.vv_flat.specs.Refusals.{Accept}
 use Rattle.vv_flat.specs.Sharing.{place_count, shares}
 use Rattle.vv_flat.specs.NamedPlaces.{is_named, named_count}
-use Rattle.vv_flat.specs.Rules.{clones_rule, space_rule}
+use Rattle.vv_flat.specs.Rules.{space_rule}
 use Rattle.vv_flat.specs.Changes.{Change, MakeContainer, MakeVolume, DeleteVolume, GrowVolume, SetMetadata, Snapshot, FastClone, Revert, Write, Unmap, SetEndpoints, Bind, Unbind, UnbindAll, StartClone, StartCopy, Turn, Cancel, judge, room_checks, changed_indexes}
 use Rattle.vv_flat.specs.Replay.{is_accepted, is_fresh, fits}
 use Rattle.vv_flat.specs.Plans.{fresh_places, planned_places}
@@ -24,7 +23,7 @@ use Rattle.vv_flat.proofs.MapLists.{map-same}
 use Rattle.vv_flat.proofs.MapDurable.{same-changed_indexes}
 use Rattle.vv_flat.proofs.Verdicts.{passed_room, within_pool}
 use Rattle.vv_flat.proofs.Steps.{find-passes}
-use Rattle.vv_flat.proofs.Shares.{and_left, and_right, and_both, list_all-follows}
+use Rattle.vv_flat.proofs.Shares.{and_left, and_right, and_both}
 use Rattle.vv_flat.proofs.Sums.{sum-removed_found}
 use Rattle.vv_flat.proofs.Pool.{is_kept, turn_long}
 use Rattle.vv_flat.proofs.NewEntries.{all-take, rising-take, numbers_rise, above_each, above_rises}

@@ -1,15 +1,14 @@
 -- Replaying a log: what it keeps, how it goes on, and where it stops.
-use Rattle.std.proofs.Common.{◌≡◌, ◌≤◌, ◌<◌, ℕ, zero, suc, ◌+◌, ◌&&◌, refl, ap, sym, ◌∙◌, Bool, true, false, cond, List, [], ◌∷◌, ◌++◌, length, take, arith}
-use Rattle.std.specs.Prelude.{Option, Some, None, Result, Ok, Err, slice_get}
-use Rattle.std.specs.List.{list_all}
+use Rattle.std.proofs.Common.{◌≡◌, ℕ, suc, ◌+◌, refl, ap, sym, ◌∙◌, Bool, true, false, cond, List, [], ◌∷◌, ◌++◌, length, take, arith}
+use Rattle.std.specs.Prelude.{Some, Ok, Err, slice_get}
 use Rattle.vv_flat.specs.State.{Durable}
 use Rattle.vv_flat.specs.Chunks.{Entry}
 use Rattle.vv_flat.specs.Restart.{interrupted_durable}
 use Rattle.vv_flat.specs.Changes.{apply}
-use Rattle.vv_flat.specs.Replay.{fits, replayed}
+use Rattle.vv_flat.specs.Replay.{replayed}
 use Rattle.vv_flat.specs.Fields.{change_has_forms}
 use Rattle.vv_flat.specs.WellFormed.{is_well_formed}
-use Rattle.vv_flat.specs.Logs.{LogRecord, Unfit, before_record, has_turn_indexes, record_fits, after_record, replay_from, replay, records_have_forms}
+use Rattle.vv_flat.specs.Logs.{LogRecord, Unfit, before_record, record_fits, after_record, replay_from, replay, records_have_forms}
 use Rattle.vv_flat.proofs.Shares.{and_left, and_right}
 use Rattle.vv_laws.specs.Logs.{and_then, IsFirstUnfit}
 use Rattle.vv_laws.proofs.WellFormed.{record_well, interruption_well}

@@ -1,18 +1,18 @@
 -- The form of queues and attentions is kept by every step.
 use Rattle.std.proofs.Common.{◌≡◌, ◌≤◌, ◌<◌, ℕ, zero, suc, ◌+◌, ◌-◌, ◌==◌, ◌&&◌, ◌||◌, not, refl, ap, sym, ◌∙◌, Bool, true, false, cond, List, [], ◌∷◌, ◌++◌, map, length, drop, set, get_or, arith, length-set, length-drop}
 use Rattle.std.specs.Prelude.{Option, Some, None, is_some, nat_lt, nat_le}
-use Rattle.std.specs.List.{find, filter, list_all, list_any}
+use Rattle.std.specs.List.{filter, list_all}
 use Rattle.std.proofs.lemmas.List.{length-append}
 use Rattle.std.proofs.lemmas.List.Folds.{list_all-append, list_all-map}
-use Rattle.std.proofs.lemmas.Bool.{not-true, le-leb, leb-true, leb-false, ltb-true, eqb-true, eq-eqb, ne_eqb}
+use Rattle.std.proofs.lemmas.Bool.{le-leb, leb-true, leb-false, eq-eqb}
 use Rattle.std.proofs.lemmas.Bool.Decides.{nat_tests}
 use Rattle.vv_units.specs.declared.geometry.Geometry.{Geometry}
-use Rattle.vv_flat.specs.Lists.{if_found, first_changed, put_before, first_removed, all_rise, all_rise_from}
-use Rattle.vv_flat.specs.State.{Address, Binding, Task, Job, Clone, Copy, Volume, QueuedCommand, Volatile, Durable, Array, host_limit, empty_array, volume_of, task_of, clone_of, copy_of}
+use Rattle.vv_flat.specs.Lists.{if_found, first_changed, put_before, first_removed, all_rise}
+use Rattle.vv_flat.specs.State.{Address, Binding, Task, Job, Clone, Copy, QueuedCommand, Durable, Array, host_limit, empty_array, volume_of, task_of, clone_of, copy_of}
 use Rattle.vv_flat.specs.Chunks.{ChunkValue, unmapped_value}
 use Rattle.vv_flat.specs.Space.{is_running}
-use Rattle.vv_flat.specs.Bindings.{is_address, is_below, binding_at, binding_of, is_binding_of, new_address, with_binding, count_left, without_binding, is_of_host, without_host}
-use Rattle.vv_flat.specs.Volatile.{queue_limit, is_queue_full, queue_of, with_queue, submitted, head_taken, has_attention, with_attention, without_attention, with_attentions, without_attentions_of}
+use Rattle.vv_flat.specs.Bindings.{is_address, is_below, binding_at, binding_of, is_binding_of, new_address, with_binding, count_left, without_binding, without_host}
+use Rattle.vv_flat.specs.Volatile.{queue_limit, is_queue_full, queue_of, with_queue, submitted, head_taken, has_attention, with_attention, without_attention, with_attentions}
 use Rattle.vv_flat.specs.Tasks.{job_turned, turned, clone_turned, copy_turned, with_clone, with_copy, cancelled}
 use Rattle.vv_flat.specs.Restart.{restarted, interrupted}
 use Rattle.vv_flat.specs.Profiles.{Capability}
@@ -22,7 +22,6 @@ use Rattle.vv_flat.specs.Replay.{is_accepted}
 use Rattle.vv_flat.specs.Answers.{answer, next}
 use Rattle.vv_flat.proofs.Shares.{and_left, and_right, and_both, list_all-follows, list_all-both}
 use Rattle.vv_flat.proofs.Known.{all-put, all-filter}
-use Rattle.vv_flat.proofs.Steps.{find-passes}
 use Rattle.vv_flat.proofs.Lookups.{find-changed, find-removed_other}
 use Rattle.vv_flat.proofs.KeepLists.{rise-put, rise-filter, found-put}
 use Rattle.vv_flat.proofs.KeepTasks.{none_any}

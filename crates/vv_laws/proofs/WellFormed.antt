@@ -1,7 +1,6 @@
 -- Well-formed tables and shapes: how the two words go together, and what keeps them.
-use Rattle.std.proofs.Common.{◌≡◌, ℕ, ◌&&◌, refl, ap, sym, ◌∙◌, Bool, true, false, cond, List, map}
+use Rattle.std.proofs.Common.{◌≡◌, ℕ, ◌&&◌, refl, ap, sym, ◌∙◌, Bool, true, false, cond, List}
 use Rattle.std.specs.Prelude.{None}
-use Rattle.std.specs.List.{list_all}
 use Rattle.std.proofs.lemmas.List.Folds.{list_all-map}
 use Rattle.vv_units.specs.declared.geometry.Geometry.{Geometry}
 use Rattle.vv_units.specs.declared.volume.TaskState.TheVariants.{Interrupted}

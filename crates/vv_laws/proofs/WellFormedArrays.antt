@@ -1,23 +1,23 @@
 -- A well-formed flat array stays so.
-use Rattle.std.proofs.Common.{◌≡◌, ◌≤◌, ◌<◌, ℕ, zero, suc, ◌+◌, ◌-◌, ◌*◌, ◌/◌, ◌==◌, ◌&&◌, ◌||◌, not, refl, ap, sym, ◌∙◌, Bool, true, false, cond, List, [], ◌∷◌, ◌++◌, map, take, drop, length, replicate, arith, length-take, length-drop}
-use Rattle.std.specs.Prelude.{Option, Some, None, nat_lt, nat_le, slice_get, unwrap_or, option_map, min}
+use Rattle.std.proofs.Common.{◌≡◌, ◌≤◌, ◌<◌, ℕ, zero, suc, ◌+◌, ◌-◌, ◌*◌, ◌/◌, ◌==◌, ◌&&◌, ◌||◌, not, refl, ap, sym, ◌∙◌, Bool, true, false, cond, List, [], ◌∷◌, map, drop, length, replicate, arith, length-take, length-drop}
+use Rattle.std.specs.Prelude.{Option, Some, None, nat_lt, nat_le, slice_get, unwrap_or, option_map}
 use Rattle.std.specs.List.{list_all}
 use Rattle.std.proofs.lemmas.List.{length-map, length-replicate}
 use Rattle.std.proofs.lemmas.List.Folds.{list_all-map}
 use Rattle.std.proofs.lemmas.Nat.{div_below}
 use Rattle.std.proofs.Math.Nat.{suc-mul, mul_assoc, mul-le-mul_right}
-use Rattle.std.proofs.lemmas.Bool.{ltb-true, lt-ltb, ltb-false, leb-true, eqb-true, eqb-false, eq-eqb, ne_eqb, not-true, or_parts}
+use Rattle.std.proofs.lemmas.Bool.{ltb-true, lt-ltb, ltb-false, eqb-true, eqb-false, eq-eqb, ne_eqb, not-true, or_parts}
 use Rattle.vv_units.specs.Sizes.{block_bytes}
 use Rattle.vv_units.specs.declared.geometry.Geometry.{Geometry}
 use Rattle.vv_flat.specs.Lists.{if_found, mapped_from, numbers_from, indexes_from}
-use Rattle.vv_flat.specs.State.{Array, Durable, empty_durable, Volume, RunningClone, RunningCopy, Piece, Task, indexed, all_pieces, volume_of, clone_of, task_of, map_durable}
+use Rattle.vv_flat.specs.State.{Array, Durable, empty_durable, Volume, RunningClone, RunningCopy, Piece, indexed, all_pieces, volume_of, clone_of, map_durable}
 use Rattle.vv_flat.specs.Chunks.{ChunkValue, shape, chunk_bytes, unmapped_value, is_chunk_value, bytes_of, overwritten, chunk_in, touched_first, touched_count, touched_indexes, written_values, copied_values, volume_blocks}
 use Rattle.vv_flat.specs.Parts.{are_whole}
 use Rattle.vv_flat.specs.Tasks.{turn_indexes, turn_limit, turned_indexes}
 use Rattle.vv_flat.specs.Bits.{allocated_indexes}
 use Rattle.vv_flat.specs.Profiles.{Capability, Misfit}
 use Rattle.vv_flat.specs.Refusals.{Accept, OutOfRange}
-use Rattle.vv_flat.specs.Sharing.{is_told_by_stamp, stamps_tell_bytes}
+use Rattle.vv_flat.specs.Sharing.{stamps_tell_bytes}
 use Rattle.vv_flat.specs.Rules.{keeps_shape_rules}
 use Rattle.vv_flat.specs.FlatForm.{is_given, stamps_are_given, has_chunk_values, is_well_formed_array}
 use Rattle.vv_flat.specs.WellFormed.{is_well_formed_shape}
@@ -40,7 +40,7 @@ use Rattle.vv_laws.proofs.KeepForms.{well_formed_stays}
 use Rattle.vv_laws.proofs.WellFormed.{well_formed_shape, empty_well}
 use Rattle.vv_laws.proofs.Answering.{answer_is}
 use Rattle.vv_laws.proofs.OtherContents.{map-durable_same}
-use Rattle.vv_laws.proofs.Standing.{AllPass, new_home, pieces_at, stays_right}
+use Rattle.vv_laws.proofs.Standing.{AllPass, new_home, stays_right}
 use Rattle.vv_laws.proofs.NewStamps.{New, Clones, clones_of, pieces_pass, pass_pieces, turned_case}
 use Rattle.vv_laws.proofs.FlatKeeps.{each_at, new, stamps_after, told_after}
 use Rattle.vv_laws.proofs.Planning.{numbers_below}
@@ -53,7 +53,7 @@ on_chunks : {X : Type 0} (f : X → Bool) (i : ℕ) (xs : List X)
 on_chunks f i [] = refl
 on_chunks f i (x ∷ xs) = ap (λ b. f x && b) (on_chunks f (i + 1) xs)
 
-all_alike : {A : Type 0} (p q : A → Bool) → ((x : A) → p x ≡ q x) → (xs : List A) → list_all p xs ≡ list_all q xs
+pub all_alike : {A : Type 0} (p q : A → Bool) → ((x : A) → p x ≡ q x) → (xs : List A) → list_all p xs ≡ list_all q xs
 all_alike p q h [] = refl
 all_alike p q h (x ∷ xs) = ap (λ b. b && list_all p xs) (h x) ∙ ap (λ b. q x && b) (all_alike p q h xs)
 
@@ -79,7 +79,7 @@ module _ {X : Type 0} (stamp_of : X → ℕ) (lsn : ℕ) (clones : List (Running
     numbers = all-always (λ (c : RunningClone X). true) (λ c. refl) d.clones;
   }
 
-  pass_given : AllPass X (λ o p. given o p.chunk) (λ _. true) d → all_given ≡ true
+  pub pass_given : AllPass X (λ o p. given o p.chunk) (λ _. true) d → all_given ≡ true
   pass_given k =
       and_both _ _
       (and_both _ _
@@ -142,7 +142,7 @@ values_stamped d (Cancel n) bytes = refl
 
 -- The new values have their bytes.
 
-full_value : (B s : ℕ) (bytes : List ℕ) → length bytes ≡ chunk_bytes B → (s == 0) ≡ false → is_chunk_value B (record { stamp = s; bytes = bytes }) ≡ true
+pub full_value : (B s : ℕ) (bytes : List ℕ) → length bytes ≡ chunk_bytes B → (s == 0) ≡ false → is_chunk_value B (record { stamp = s; bytes = bytes }) ≡ true
 full_value B s bytes long some =
     and_both (length bytes == chunk_bytes B) _ (eq-eqb (length bytes) (chunk_bytes B) long) (ap (λ b. not b || list_all (λ b. b == 0) bytes) some)
 
@@ -331,7 +331,7 @@ zeros : (n : ℕ) → list_all (λ b. b == 0) (replicate n 0) ≡ true
 zeros zero = refl
 zeros (suc n) = zeros n
 
-unmapped_good : (B : ℕ) → is_chunk_value B (unmapped_value B) ≡ true
+pub unmapped_good : (B : ℕ) → is_chunk_value B (unmapped_value B) ≡ true
 unmapped_good B =
     and_both _ _ (eq-eqb (length (replicate (chunk_bytes B) 0)) (chunk_bytes B) (length-replicate (chunk_bytes B) 0)) (zeros (chunk_bytes B))
 

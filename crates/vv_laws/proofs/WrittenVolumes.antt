@@ -1,24 +1,22 @@
 -- What a write does to the bytes of a volume.
-use Rattle.std.proofs.Common.{◌≡◌, ◌≤◌, ◌<◌, ℕ, zero, suc, ◌+◌, ◌-◌, ◌*◌, ◌/◌, ◌==◌, ◌||◌, ◌&&◌, refl, ap, sym, ◌∙◌, Bool, true, false, cond, List, [], ◌∷◌, ◌++◌, map, take, drop, length, set, arith, length-take, length-drop, length-set}
-use Rattle.std.specs.Prelude.{Option, Some, None, slice_get, unwrap_or, option_map, min, nat_lt}
-use Rattle.std.specs.List.{flat_map, list_all, find}
-use Rattle.std.proofs.lemmas.Bool.{eqb-true, eqb-false, eq-eqb, ne_eqb, leb-true, leb-false, ltb-true, ltb-false}
+use Rattle.std.proofs.Common.{◌≡◌, ◌≤◌, ◌<◌, ℕ, zero, suc, ◌+◌, ◌-◌, ◌*◌, ◌/◌, ◌==◌, refl, ap, sym, ◌∙◌, Bool, true, false, cond, List, [], ◌∷◌, ◌++◌, map, take, drop, length, set, arith, length-take, length-drop, length-set}
+use Rattle.std.specs.Prelude.{Some, min, nat_lt}
+use Rattle.std.proofs.lemmas.Bool.{eqb-true, eqb-false, eq-eqb, ltb-true, ltb-false}
 use Rattle.std.proofs.lemmas.List.{length-append, append-nil, take-append-drop}
 use Rattle.std.proofs.lemmas.Nat.{le-div}
 use Rattle.std.proofs.Math.Nat.{suc-mul, mul_assoc, div-mul-le_self, lt-div-mul-add, mul-le-mul_right}
 use Rattle.vv_units.specs.Sizes.{block_bytes, is_chunk_size}
-use Rattle.vv_flat.specs.Lists.{if_found, first_changed, put_at, numbers_from}
+use Rattle.vv_flat.specs.Lists.{if_found, put_at, numbers_from}
 use Rattle.vv_flat.specs.State.{Durable, Volume, volume_of}
-use Rattle.vv_flat.specs.Chunks.{ChunkValue, chunk_bytes, bytes_of, overwritten, chunk_in, touched_first, touched_count, touched_indexes, written_values, written}
-use Rattle.vv_flat.specs.Parts.{are_whole, bytes_in, chunk_start, part_written}
+use Rattle.vv_flat.specs.Chunks.{ChunkValue, bytes_of, overwritten, chunk_in, touched_first, touched_count, touched_indexes, written_values, written}
+use Rattle.vv_flat.specs.Parts.{are_whole, bytes_in}
 use Rattle.vv_flat.specs.Changes.{Write, effect, apply}
 use Rattle.vv_flat.specs.Flat.{new_values, flat_after}
-use Rattle.vv_flat.proofs.Shares.{and_left, and_right}
 use Rattle.vv_flat.proofs.Entries.{length-put_at}
 use Rattle.vv_flat.proofs.Steps.{find-passes}
 use Rattle.vv_flat.proofs.KeepTasks.{find-changed_found}
 use Rattle.vv_flat.proofs.Lookups.{find-changed}
-use Rattle.vv_laws.proofs.ListParts.{take-append, drop-append, drop-past, take-past, drop-drop, part_overwritten}
+use Rattle.vv_laws.proofs.ListParts.{drop-past, take-past, drop-drop, part_overwritten}
 use Rattle.vv_laws.proofs.ChunkBytes.{chunk_is, bytes_long, some_blocks}
 
 -- Chunks put into a list.

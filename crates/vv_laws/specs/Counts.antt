@@ -1,6 +1,6 @@
 -- What an accepted change adds to the numbers that a table of kept numbers has, and what it takes from them: the entries of
 -- all lists, and the chunks that running clones have reserved. This is this project's own.
-use Rattle.std.specs.Prelude.{ℕ, ◌+◌, ◌-◌, ◌*◌, ◌&&◌, Bool, List, length, if◌then◌else◌}
+use Rattle.std.specs.Prelude.{ℕ, ◌+◌, ◌-◌, ◌*◌, ◌&&◌, length, if◌then◌else◌}
 use Rattle.vv_flat.specs.Lists.{if_found}
 use Rattle.vv_flat.specs.State.{Job, Clone, Copy, Task, RunningClone, RunningCopy, Durable, task_of, clone_of, copy_of}
 use Rattle.vv_flat.specs.Space.{is_running, is_clone}

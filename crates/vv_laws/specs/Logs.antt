@@ -1,5 +1,5 @@
 -- Words on logs that are replayed: going on after one, and the first record that doesn't fit.
-use Rattle.std.specs.Prelude.{◌≡◌, ℕ, ◌+◌, List, take, Result, Ok, Err, Option, Some, slice_get, IsFalse}
+use Rattle.std.specs.Prelude.{◌≡◌, ◌+◌, List, take, Result, Ok, Err, Some, slice_get, IsFalse}
 use Rattle.vv_flat.specs.State.{Durable}
 use Rattle.vv_flat.specs.Chunks.{Entry}
 use Rattle.vv_flat.specs.Logs.{LogRecord, Unfit, record_fits, replay}

@@ -1,10 +1,12 @@
 //! Tables as the content of the pool changes.
-ghost use Rattle.std.specs.Prelude.{◌≡◌, ℕ, List, map, IsTrue};
+ghost use Rattle.std.specs.Prelude.{◌≡◌, ℕ, List, map, length, IsTrue};
 ghost use Rattle.vv_flat.specs.State.{Durable, all_pieces};
-ghost use Rattle.vv_flat.specs.Chunks.{Entry, filled, filled_tables, shape, shape_of_tables, placed_entries};
+ghost use Rattle.vv_flat.specs.Chunks.{Entry, chunk_bytes, filled, filled_tables, shape, shape_of_tables, placed_entries};
 ghost use Rattle.vv_flat.specs.NamedPlaces.{is_named};
 ghost use Rattle.vv_flat.specs.Changes.{Change, new_stamp};
 ghost use Rattle.vv_flat.specs.Replay.{replayed};
+ghost use Rattle.vv_flat.specs.WellFormed.{is_well_formed};
+ghost use Rattle.vv_flat.specs.FlatForm.{is_well_formed_array};
 ghost use Rattle.vv_flat.specs.Flat.{new_values, flat_after};
 
 /// The flat array for which tables stand has their shape.
@@ -27,4 +29,11 @@ pub fn a_record_does_its_call_in_another_content()
         → map (filled tables.geometry.chunk_blocks after) (placed_entries places (new_stamp tables change))
         ≡ new_values (filled_tables before tables) change bytes
         → filled_tables after (replayed tables change places) ≡ flat_after (filled_tables before tables) change bytes }
+{}
+
+/// Well-formed tables stand for a well-formed flat array, where the pool has as many bytes as a chunk at each named place.
+pub fn well_formed_tables_stand_for_a_well_formed_array()
+    ensures { (bytes_at : ℕ → List ℕ) → (tables : Durable Entry) → IsTrue (is_well_formed tables)
+        → ((place : ℕ) → IsTrue (is_named (all_pieces tables) place) → length (bytes_at place) ≡ chunk_bytes tables.geometry.chunk_blocks)
+        → IsTrue (is_well_formed_array (filled_tables bytes_at tables)) }
 {}

@@ -1,7 +1,9 @@
 -- What an accepted change adds to the entries and to the reserved chunks, and what it takes from them.
-use Rattle.std.proofs.Common.{◌≡◌, ◌≤◌, ◌<◌, ℕ, ◌+◌, ◌-◌, ◌*◌, ◌/◌, ◌==◌, ◌&&◌, not, refl, ap, sym, ◌∙◌, Bool, true, false, cond, List, [], ◌++◌, map, length, replicate, drop, arith, length-take}
-use Rattle.std.specs.Prelude.{Option, Some, None, is_none, nat_lt, nat_le, sum_by}
-use Rattle.std.specs.List.{find}
+use Rattle.std.proofs.Common.{◌≡◌, ◌≤◌, ◌<◌, ℕ, ◌+◌, ◌-◌, ◌*◌, ◌/◌, ◌==◌, ◌&&◌, not, refl, ap, sym, ◌∙◌, Bool, true, false, cond, List, [], ◌++◌, map, length, replicate, drop, arith, length-take, length-drop, ◌∷◌, ◌||◌}
+use Rattle.std.specs.Prelude.{Option, Some, None, is_none, nat_lt, nat_le, sum_by, is_some}
+use Rattle.std.specs.List.{find, filter, list_any}
+use Rattle.vv_flat.proofs.KeepTasks.{found-any}
+use Rattle.vv_flat.proofs.Charges.{formed_clones}
 use Rattle.std.proofs.lemmas.List.{length-append, length-replicate}
 use Rattle.std.proofs.lemmas.Bool.{eqb-true}
 use Rattle.std.proofs.lemmas.Bool.Decides.{nat_tests}
@@ -26,10 +28,10 @@ use Rattle.vv_flat.proofs.Verdicts.{passed_state, not_refused}
 use Rattle.vv_flat.proofs.Steps.{find-passes}
 use Rattle.vv_flat.proofs.Entries.{length-put_at, length-mapped_from}
 use Rattle.vv_flat.proofs.NothingChanges.{first_removed-same, first_changed-same}
-use Rattle.vv_flat.proofs.Shares.{and_left}
+use Rattle.vv_flat.proofs.Shares.{and_left, and_both}
 use Rattle.vv_flat.specs.WellFormed.{is_well_formed_shape}
 use Rattle.vv_flat.proofs.Kept.{Kept, kept}
-use Rattle.vv_flat.proofs.Pool.{is_kept, turn_long}
+use Rattle.vv_flat.proofs.Pool.{is_kept, turn_long, allocated_long}
 use Rattle.vv_laws.proofs.Planning.{length-numbers}
 use Rattle.vv_laws.specs.Counts.{entries_added, ended_entries, entries_taken, still_reserved, reserved_added, reserved_taken}
 
@@ -488,3 +490,62 @@ write_touches B first blocks size least most = go (blocks == 0) refl
         let long : length (numbers_from (touched_first B first) (touched_count B first blocks)) ≡ touched_count B first blocks =
         length-numbers (touched_first B first) (touched_count B first blocks) in
         (omega (arith, order, long), omega (arith, last, long))
+
+-- A running clone's task has its image and target,
+running_any : (r : Task → Bool) (n : ℕ) (t : Task) (ts : List Task) → find (λ (u : Task). u.number == n) ts ≡ Some t → r t ≡ true
+    → list_any (λ m. m == n) (map (λ (u : Task). u.number) (filter r ts)) ≡ true
+running_any r n t [] e f = cc
+running_any r n t (u ∷ us) e f = go (u.number == n) refl e (r u) refl (λ g. running_any r n t us g f)
+  where
+    later : (b c : Bool) → c ≡ true → (b || c) ≡ true
+    later true c g = refl
+    later false c g = g
+
+    go : (b : Bool) → (u.number == n) ≡ b → cond b (Some u) (find (λ (u : Task). u.number == n) us) ≡ Some t → (c : Bool) → r u ≡ c
+        → (find (λ (u : Task). u.number == n) us ≡ Some t → list_any (λ m. m == n) (map (λ (u : Task). u.number) (filter r us)) ≡ true)
+        → list_any (λ m. m == n) (map (λ (u : Task). u.number) (cond c (u ∷ filter r us) (filter r us))) ≡ true
+    go true is g true of there = ap (λ b. b || list_any (λ m. m == n) (map (λ (u : Task). u.number) (filter r us))) is
+    go true is g false of there = let same : ◌≡◌ {A = Task} u t = cc in let no : r u ≡ true = ap r same ∙ f in cc
+    go false is g true of there = later (u.number == n) _ (there g)
+    go false is g false of there = there g
+
+any-map : {A B : Type 0} (p : B → Bool) (f : A → B) (xs : List A) → list_any p (map f xs) ≡ list_any (λ x. p (f x)) xs
+any-map p f [] = refl
+any-map p f (x ∷ xs) = ap (λ b. p (f x) || b) (any-map p f xs)
+
+clone_stands : (d : Durable ℕ) → Kept d → (t : Task) → task_of d t.number ≡ Some t → is_running t ≡ true → is_clone t.job ≡ true
+    → is_some (clone_of d t.number) ≡ true
+clone_stands d rules t found runs clone =
+    let both : (is_running t && is_clone t.job) ≡ true = and_both (is_running t) (is_clone t.job) runs clone in
+    found-any (λ (c : RunningClone ℕ). c.number == t.number) d.clones
+    ∙ sym (any-map (λ m. m == t.number) (λ (c : RunningClone ℕ). c.number) d.clones)
+    ∙ ap (list_any (λ m. m == t.number)) (formed_clones d rules.form)
+    ∙ running_any (λ (u : Task). is_running u && is_clone u.job) t.number t d.tasks found both
+
+-- and its turn copies the least of 16 and what is left.
+pub turn_exact : (d : Durable ℕ) → is_well_formed_shape d ≡ true → (t : Task) → task_of d t.number ≡ Some t → is_running t ≡ true → is_clone t.job ≡ true
+    → length (turned_indexes (λ s. s) d t.number) ≡ next_piece t
+unfolding is_well_formed_shape turned_indexes
+turn_exact d well t found runs clone =
+    ap (λ o. length (if_found o (λ t. cond (is_running t) (job_indexes (λ s. s) d t t.job) []) [])) found
+    ∙ ap (λ b. length (cond b (job_indexes (λ s. s) d t t.job) [])) runs
+    ∙ of_job t.job refl
+  where
+    rules : Kept d
+    rules = kept d (and_left _ _ well)
+
+    of_clone : (o : Option (RunningClone ℕ)) → clone_of d t.number ≡ o → is_some o ≡ true
+        → length (if_found o (λ (c : RunningClone ℕ). turn_indexes (map (λ s. s) c.image) t.done) []) ≡ next_piece t
+    of_clone None e some = cc
+    of_clone (Some c) e some =
+        let same : allocated_count (map (λ s. s) c.image) ≡ allocated_count c.image = ap allocated_count (map-same (λ s. s) (λ s. refl) c.image) in
+        let total : t.total ≡ allocated_count c.image =
+        eqb-true t.total (allocated_count c.image) (and_left (t.total == allocated_count c.image) _ (and_left _ _ (and_left _ _ (is_kept d t c rules.clones found e)))) in
+        let all : length (allocated_indexes (map (λ s. s) c.image)) ≡ allocated_count (map (λ s. s) c.image) = allocated_long 0 (map (λ s. s) c.image) in
+        let rest : length (drop t.done (allocated_indexes (map (λ s. s) c.image))) ≡ length (allocated_indexes (map (λ s. s) c.image)) - t.done =
+        length-drop t.done (allocated_indexes (map (λ s. s) c.image)) in
+        length-take 16 (drop t.done (allocated_indexes (map (λ s. s) c.image))) ∙ omega (arith, same, total, all, rest)
+
+    of_job : (job : Job) → t.job ≡ job → length (job_indexes (λ s. s) d t job) ≡ next_piece t
+    of_job (Clone source) e = of_clone (clone_of d t.number) refl (clone_stands d rules t found runs clone)
+    of_job (Copy source base target) e = let no : false ≡ true = ap is_clone (sym e) ∙ clone in cc

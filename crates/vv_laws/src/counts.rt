@@ -1,10 +1,10 @@
 //! Numbers that are kept beside the tables: what each change adds to them, and what it takes from them.
-ghost use Rattle.std.specs.Prelude.{◌≡◌, ◌≤◌, ◌+◌, ℕ, Option, length, IsTrue};
+ghost use Rattle.std.specs.Prelude.{◌≡◌, ◌≤◌, ◌+◌, ℕ, Option, Some, length, IsTrue};
 ghost use Rattle.vv_units.specs.Sizes.{is_chunk_size};
-ghost use Rattle.vv_flat.specs.State.{Durable};
+ghost use Rattle.vv_flat.specs.State.{Durable, Task, task_of};
 ghost use Rattle.vv_flat.specs.Chunks.{touched_indexes};
-ghost use Rattle.vv_flat.specs.Space.{entries, reserved};
-ghost use Rattle.vv_flat.specs.Tasks.{turned_indexes};
+ghost use Rattle.vv_flat.specs.Space.{entries, reserved, is_running, is_clone};
+ghost use Rattle.vv_flat.specs.Tasks.{turned_indexes, next_piece};
 ghost use Rattle.vv_flat.specs.Profiles.{Misfit};
 ghost use Rattle.vv_flat.specs.Refusals.{Accept};
 ghost use Rattle.vv_flat.specs.Changes.{Change, judge, apply_shape};
@@ -27,6 +27,13 @@ pub fn reserved_chunks_go_by_the_change()
 /// A turn copies 16 chunks at most.
 pub fn a_turn_copies_few_chunks()
     ensures { (d : Durable ℕ) → (task : ℕ) → length (turned_indexes (λ s. s) d task) ≤ 16 }
+{}
+
+/// Exactly the least of 16 and what is left, where the task is a clone that runs.
+pub fn a_turn_copies_the_least_of_16_and_what_is_left()
+    ensures { (d : Durable ℕ) → IsTrue (is_well_formed_shape d) → (task : Task) → task_of d task.number ≡ Some task
+        → IsTrue (is_running task) → IsTrue (is_clone task.job)
+        → length (turned_indexes (λ s. s) d task.number) ≡ next_piece task }
 {}
 
 /// A write of 1 to 2048 blocks touches 1 to 257 chunks.

@@ -1,4 +1,4 @@
--- An accepted change keeps the rule on bindings. The law bindings_stay_where_they_may_be is the last lemma here.
+-- An accepted change keeps the rule on bindings, as the last lemma here says. The law the_rules_of_the_shape_stay rests on it.
 use Rattle.std.proofs.Common.{◌≡◌, ◌≤◌, ◌<◌, ℕ, zero, suc, ◌+◌, ◌-◌, ◌==◌, ◌&&◌, ◌||◌, not, refl, ap, sym, ◌∙◌, Bool, true, false, cond, List, [], ◌∷◌, map, length, arith}
 use Rattle.std.specs.Prelude.{Option, Some, None, is_some, is_none, unwrap_or, slice_index, nat_le, nat_lt}
 use Rattle.std.specs.List.{find, filter, list_all, list_any}

@@ -1,4 +1,5 @@
--- An accepted change keeps the rule on running clones. The law running_clones_stay_in_step is the last lemma here.
+-- An accepted change keeps the rule on running clones, as the last lemma here says. The law the_rules_of_the_shape_stay
+-- rests on it.
 use Rattle.std.proofs.Common.{◌≡◌, ◌≤◌, ℕ, zero, suc, ◌+◌, ◌-◌, ◌==◌, ◌&&◌, ◌||◌, not, refl, ap, sym, ◌∙◌, Bool, true, false, cond, List, [], ◌∷◌, map, length, replicate, take, drop, set, arith, length-set}
 use Rattle.std.specs.Prelude.{Option, Some, nat_le, nat_lt}
 use Rattle.std.specs.List.{find, list_all}

@@ -1,4 +1,5 @@
--- An accepted change keeps the rule on running copies. The law running_copies_stay_in_order is the last lemma here.
+-- An accepted change keeps the rule on running copies, as the last lemma here says. The law the_rules_of_the_shape_stay
+-- rests on it.
 use Rattle.std.proofs.Common.{◌≡◌, ◌≤◌, ◌<◌, ℕ, ◌+◌, ◌-◌, ◌==◌, ◌&&◌, ◌||◌, not, refl, ap, sym, ◌∙◌, Bool, true, false, cond, List, [], ◌∷◌, ◌++◌, map, length, replicate, arith}
 use Rattle.std.specs.Prelude.{Option, Some, None, is_none, nat_le, nat_lt}
 use Rattle.std.specs.List.{find, filter, list_all, list_any}

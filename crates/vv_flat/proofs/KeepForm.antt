@@ -1,5 +1,5 @@
 -- An accepted change keeps the form: the maps rise, container 0 is the first container, and the running clones and copies are
--- those of the running tasks. The law the_form_stays rests on these.
+-- those of the running tasks. The law the_rules_of_the_shape_stay rests on these.
 use Rattle.std.proofs.Common.{◌≡◌, ℕ, ◌+◌, ◌-◌, ◌==◌, ◌&&◌, ◌||◌, not, refl, ap, sym, ◌∙◌, Bool, true, false, cond, List, [], ◌∷◌, ◌++◌, map, length, arith}
 use Rattle.std.specs.Prelude.{Option, Some, None, is_some, is_none, nat_lt, nat_le, slice_index, unwrap_or}
 use Rattle.std.specs.List.{find, filter, list_all, list_any}

@@ -1,5 +1,5 @@
--- An accepted change passes no limit, and leaves volumes and images of whole MB. The laws limits_stay_kept and
--- sizes_stay_whole rest on these.
+-- An accepted change passes no limit, and leaves volumes and images of whole MB. The law the_rules_of_the_shape_stay rests
+-- on these.
 use Rattle.std.proofs.Common.{◌≡◌, ◌≤◌, ◌<◌, ℕ, ◌+◌, ◌-◌, ◌==◌, ◌&&◌, not, refl, ap, ◌∙◌, Bool, true, false, cond, List, map, length, arith}
 use Rattle.std.specs.Prelude.{Option, Some, None, is_some, nat_lt, nat_le, sum_by, count_by}
 use Rattle.std.specs.List.{find, filter, list_all}

@@ -1,5 +1,5 @@
--- After an accepted change each number is still given once, and what is named stands. The laws numbers_stay_given_once and
--- names_stay_known rest on these.
+-- After an accepted change each number is still given once, and what is named stands. The law the_rules_of_the_shape_stay
+-- rests on these.
 use Rattle.std.proofs.Common.{◌≡◌, ◌≤◌, ◌<◌, ℕ, ◌+◌, ◌-◌, ◌==◌, ◌&&◌, ◌||◌, not, refl, ap, sym, ◌∙◌, Bool, true, false, cond, List, ◌++◌, map, length, arith}
 use Rattle.std.specs.Prelude.{Option, Some, None, is_some, nat_lt, nat_le, sum_by}
 use Rattle.std.specs.List.{find, list_all}

@@ -31,3 +31,6 @@ pub mod KeepNumbers
 pub mod KeepLimits
 pub mod KeepRules
 pub mod KeepInterrupted
+pub mod NamedPlaces
+pub mod GuardRows
+pub mod RuleRows

@@ -124,7 +124,7 @@ with_context-same contexts host endpoints e =
 
 module _ {X : Type 0} (s : X → ℕ) (u : X) where
   -- what the judge sees of a volume that stands
-  stamps_found : (d : Durable X) (n : ℕ) (v : Volume X) → volume_of d n ≡ Some v → stamps_of (map_durable s d) n ≡ map s v.chunks
+  pub stamps_found : (d : Durable X) (n : ℕ) (v : Volume X) → volume_of d n ≡ Some v → stamps_of (map_durable s d) n ≡ map s v.chunks
   stamps_found d n v e =
       sym (map-volume_of s d n (λ xs. xs) (λ w. map s w.chunks) (λ w. w.chunks) [] [] (λ w. refl) refl)
       ∙ ap (λ o. if_found o (λ w. map s w.chunks) []) e

@@ -1,7 +1,7 @@
 -- Fields of durable parts and of changes that have their forms: numbers inside their widths, and names, keys and notes
 -- as lines, records and areas spell them. What a rule keeps of a field isn't said again here. The forms are this
 -- project's own.
-use Rattle.std.specs.Prelude.{ℕ, ◌^◌, ◌==◌, ◌&&◌, Bool, true, false, not, List, [], ◌∷◌, map, length, Option, Some, None, nat_le, nat_lt}
+use Rattle.std.specs.Prelude.{ℕ, ◌^◌, ◌&&◌, Bool, true, not, List, [], ◌∷◌, map, length, Option, Some, None, nat_le, nat_lt}
 use Rattle.std.specs.List.{list_all, list_any}
 use Rattle.std.specs.Str.{bytes_eq}
 use Rattle.vv_units.specs.Names.{is_name, is_key, is_note}

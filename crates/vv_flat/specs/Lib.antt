@@ -1,6 +1,7 @@
 pub mod Lists
 pub mod State
 pub mod Chunks
+pub mod Parts
 pub mod Space
 pub mod Bits
 pub mod Bindings
@@ -11,8 +12,15 @@ pub mod Profiles
 pub mod Refusals
 pub mod Changes
 pub mod Sharing
+pub mod NamedPlaces
 pub mod Rules
 pub mod Fields
 pub mod Form
+pub mod WellFormed
+pub mod FlatForm
 pub mod Replay
+pub mod Plans
 pub mod Flat
+pub mod Answers
+pub mod Runs
+pub mod Logs

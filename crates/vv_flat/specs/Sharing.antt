@@ -26,7 +26,8 @@ unfoldable pub shares_places : ℕ → List (Piece Entry) → Bool
 shares_places pool_chunks all =
     list_all (λ (a : Piece Entry). is_placed pool_chunks a.chunk && list_all (agrees a) all) all
 
--- the count of a place: how many of the entries name it
+-- How many of the entries of some lists name a place. It is a count of names: where two lists share a page, an entry of
+-- the page is named by both, though a store of pages counts it once.
 abbrev pub names_place : ℕ → Piece Entry → Bool
 names_place p a = if_found a.chunk.place (λ q. q == p) false
 

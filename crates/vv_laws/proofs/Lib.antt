@@ -1,0 +1,17 @@
+pub mod KeepForms
+pub mod WellFormed
+pub mod OtherContents
+pub mod Answering
+pub mod Replays
+pub mod Planning
+pub mod BoundVolumes
+pub mod Standing
+pub mod ListParts
+pub mod ChunkBytes
+pub mod WrittenVolumes
+pub mod NewStamps
+pub mod FlatKeeps
+pub mod WellFormedArrays
+pub mod VolatileForms
+pub mod KeptNumbers
+pub mod FilledArrays

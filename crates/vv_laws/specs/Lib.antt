@@ -1,0 +1,4 @@
+pub mod Logs
+pub mod Units
+pub mod VolatileForm
+pub mod Counts

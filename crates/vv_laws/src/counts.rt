@@ -1,0 +1,43 @@
+//! Numbers that are kept beside the tables: what each change adds to them, and what it takes from them.
+ghost use Rattle.std.specs.Prelude.{◌≡◌, ◌≤◌, ◌+◌, ℕ, Option, Some, length, IsTrue};
+ghost use Rattle.vv_units.specs.Sizes.{is_chunk_size};
+ghost use Rattle.vv_flat.specs.State.{Durable, Task, task_of};
+ghost use Rattle.vv_flat.specs.Chunks.{touched_indexes};
+ghost use Rattle.vv_flat.specs.Space.{entries, reserved, is_running, is_clone};
+ghost use Rattle.vv_flat.specs.Tasks.{turned_indexes, next_piece};
+ghost use Rattle.vv_flat.specs.Profiles.{Misfit};
+ghost use Rattle.vv_flat.specs.Refusals.{Accept};
+ghost use Rattle.vv_flat.specs.Changes.{Change, judge, apply_shape};
+ghost use Rattle.vv_flat.specs.WellFormed.{is_well_formed_shape};
+ghost use Rattle.vv_laws.specs.Counts.{entries_added, entries_taken, reserved_added, reserved_taken};
+
+/// What an accepted change of each kind adds to the entries of all lists, and what it takes from them.
+pub fn entries_go_by_the_change()
+    ensures { (misfit : Option Misfit) → (d : Durable ℕ) → (change : Change) → judge misfit d change ≡ Accept
+        → entries (apply_shape d change) + entries_taken d change ≡ entries d + entries_added d change }
+{}
+
+/// And what it adds to the reserved chunks of a well-formed shape, and takes from them.
+pub fn reserved_chunks_go_by_the_change()
+    ensures { (misfit : Option Misfit) → (d : Durable ℕ) → (change : Change) → IsTrue (is_well_formed_shape d)
+        → judge misfit d change ≡ Accept
+        → reserved (apply_shape d change) + reserved_taken d change ≡ reserved d + reserved_added d change }
+{}
+
+/// A turn copies 16 chunks at most.
+pub fn a_turn_copies_few_chunks()
+    ensures { (d : Durable ℕ) → (task : ℕ) → length (turned_indexes (λ s. s) d task) ≤ 16 }
+{}
+
+/// Exactly the least of 16 and what is left, where the task is a clone that runs.
+pub fn a_turn_copies_the_least_of_16_and_what_is_left()
+    ensures { (d : Durable ℕ) → IsTrue (is_well_formed_shape d) → (task : Task) → task_of d task.number ≡ Some task
+        → IsTrue (is_running task) → IsTrue (is_clone task.job)
+        → length (turned_indexes (λ s. s) d task.number) ≡ next_piece task }
+{}
+
+/// A write of 1 to 2048 blocks touches 1 to 257 chunks.
+pub fn a_write_touches_few_chunks()
+    ensures { (chunk_blocks first blocks : ℕ) → IsTrue (is_chunk_size chunk_blocks) → 1 ≤ blocks → blocks ≤ 2048
+        → (1 ≤ length (touched_indexes chunk_blocks first blocks)) × (length (touched_indexes chunk_blocks first blocks) ≤ 257) }
+{}

@@ -1,0 +1,6 @@
+pub mod RunSteps
+pub mod Rests
+pub mod FormLaws
+pub mod AreaLaws
+pub mod Each
+pub mod Texts

@@ -1,0 +1,22 @@
+//! The area of an image: its tables as bytes, and the rules that they keep.
+#![tactic(auto)]
+
+mod bindings;
+mod fault;
+mod laws;
+mod lists;
+mod metadata;
+mod rows;
+mod runs;
+mod tables;
+mod tasks;
+
+pub use fault::AreaFault;
+pub use laws::{
+    a_spelling_belongs_to_one_table, spelled_tables_are_read, tables_that_are_read_are_spelled_so,
+};
+pub use rows::{
+    ChunkEntry, EntryList, PairRows, PieceList, RawBinding, RawClone, RawContainer, RawContext,
+    RawCopy, RawJob, RawPiece, RawTask, RawVolume,
+};
+pub use tables::RawTables;

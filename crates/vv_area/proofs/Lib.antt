@@ -4,3 +4,4 @@ pub mod FormLaws
 pub mod AreaLaws
 pub mod Each
 pub mod Texts
+pub mod WellFormed

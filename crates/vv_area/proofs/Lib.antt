@@ -5,3 +5,4 @@ pub mod AreaLaws
 pub mod Each
 pub mod Texts
 pub mod WellFormed
+pub mod AreaLengths

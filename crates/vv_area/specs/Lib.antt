@@ -4,4 +4,6 @@ pub mod Jobs
 pub mod Forms
 pub mod Runs
 pub mod Spelling
+pub mod Lengths
+pub mod Pieces
 pub mod Area

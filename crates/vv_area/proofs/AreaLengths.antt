@@ -34,11 +34,11 @@ length-flat : {A : Type 0} (item : A → List ℕ) (size : A → ℕ) → ((x : 
 length-flat item size each [] = refl
 length-flat item size each (x ∷ xs) = omega (arith, length-append (item x) (flat_map item xs), each x, length-flat item size each xs, sum_by-cons size x xs)
 
-length-counted : {A : Type 0} (n : ℕ) (item : A → List ℕ) (size : A → ℕ) → ((x : A) → length (item x) ≡ size x) → (xs : List A) → length (list_spelling n item xs) ≡ n + sum_by size xs
+pub length-counted : {A : Type 0} (n : ℕ) (item : A → List ℕ) (size : A → ℕ) → ((x : A) → length (item x) ≡ size x) → (xs : List A) → length (list_spelling n item xs) ≡ n + sum_by size xs
 length-counted n item size each xs = omega (arith, length-list n item xs, length-flat item size each xs)
 
 -- items of one length
-sum-same : {A : Type 0} (w : ℕ) (size : A → ℕ) → ((x : A) → size x ≡ w) → (xs : List A) → sum_by size xs ≡ w * length xs
+pub sum-same : {A : Type 0} (w : ℕ) (size : A → ℕ) → ((x : A) → size x ≡ w) → (xs : List A) → sum_by size xs ≡ w * length xs
 sum-same w size each [] = omega arith
 sum-same w size each (x ∷ xs) =
     let k : w * suc (length xs) ≡ w + w * length xs = omega arith in
@@ -74,7 +74,7 @@ length-place : (place : Option ℕ) → length (place_spelling place) ≡ 4
 length-place None = length-be_bytes 4 4294967295
 length-place (Some p) = length-be_bytes 4 p
 
-length-entry : (e : Entry) → length (entry_spelling e) ≡ 12
+pub length-entry : (e : Entry) → length (entry_spelling e) ≡ 12
 length-entry e = omega (arith, sum-2 (place_spelling e.place) (be_bytes 8 e.stamp), length-place e.place, length-be_bytes 8 e.stamp)
 
 length-entries : (xs : List Entry) → length (entries_spelling xs) ≡ entries_length xs
@@ -89,7 +89,7 @@ length-needed xs = length-counted 1 need_spelling (λ n. 9 + length n.name) leng
 length-metadata : (xs : List (List ℕ × List ℕ)) → length (metadata_spelling xs) ≡ metadata_length xs
 length-metadata xs = length-counted 1 pair_spelling (λ p. 2 + length p.0 + length p.1) length-pair xs
 
-length-container : (k : Container) → length (container_spelling k) ≡ container_length k
+pub length-container : (k : Container) → length (container_spelling k) ≡ container_length k
 length-container k = omega (arith, sum-3 (be_bytes 8 k.number) (be_bytes 8 k.quota) (offers_spelling k.offers), length-be_bytes 8 k.number, length-be_bytes 8 k.quota, length-offered k.offers)
 
 length-reverted : (b : Bool) (n : ℕ) → length (cond b [] (be_bytes 8 n)) ≡ cond b 0 8
@@ -99,7 +99,7 @@ length-reverted false n = length-be_bytes 8 n
 length-kind : (v : Volume Entry) → length (kind_spelling v.kind) ≡ 9
 length-kind v = omega (arith, length-append (be_bytes 1 (kind_number v.kind)) (be_bytes 8 (source_number v.kind)), length-be_bytes 1 (kind_number v.kind), length-be_bytes 8 (source_number v.kind))
 
-length-volume : (spelling : ℕ) (v : Volume Entry) → length (volume_spelling spelling v) ≡ volume_length spelling v
+pub length-volume : (spelling : ℕ) (v : Volume Entry) → length (volume_spelling spelling v) ≡ volume_length spelling v
 length-volume spelling v =
     let all = sum-8 (be_bytes 8 v.number) (be_bytes 8 v.container) (be_bytes 1 (type_number v.vtype)) (kind_spelling v.kind) (reverted_spelling spelling v.reverted) (needs_spelling v.needs) (metadata_spelling v.metadata) (entries_spelling v.chunks) in
     omega (arith, all, length-be_bytes 8 v.number, length-be_bytes 8 v.container, length-be_bytes 1 (type_number v.vtype), length-kind v, length-reverted (eqb spelling 1) v.reverted, length-needed v.needs, length-metadata v.metadata, length-entries v.chunks)
@@ -108,7 +108,7 @@ length-numbers : (ns : List ℕ) → length (as_endpoints ns) ≡ length ns
 length-numbers [] = refl
 length-numbers (n ∷ ns) = ap (λ k. suc k) (length-numbers ns)
 
-length-context : (c : Context) → length (context_spelling c) ≡ context_length c
+pub length-context : (c : Context) → length (context_spelling c) ≡ context_length c
 length-context c =
     let list = length-counted 1 endpoint_spelling (λ e. 2) (λ e. length-be_bytes 2 e.0) (as_endpoints c.endpoints) in
     let same = sum-same 2 (λ (e : EndpointId). 2) (λ e. refl) (as_endpoints c.endpoints) in
@@ -117,32 +117,32 @@ length-context c =
 length-address : (a : Address) → length (address_spelling a) ≡ 8
 length-address a = omega (arith, sum-3 (be_bytes 4 a.host) (be_bytes 2 a.endpoint) (be_bytes 2 a.secondary), length-be_bytes 4 a.host, length-be_bytes 2 a.endpoint, length-be_bytes 2 a.secondary)
 
-length-binding : (b : Binding) → length (binding_spelling b) ≡ binding_length
+pub length-binding : (b : Binding) → length (binding_spelling b) ≡ binding_length
 length-binding b = omega (arith, sum-3 (address_spelling b.address) (be_bytes 8 b.volume) (be_bytes 2 b.count), length-address b.address, length-be_bytes 8 b.volume, length-be_bytes 2 b.count)
 
 length-job : (job : Job) → length (job_spelling job) ≡ job_length job
 length-job (Clone volume) = simp length-append (omega (arith, length-be_bytes 1 1, length-be_bytes 8 volume))
 length-job (Copy source base target) = simp length-append (omega (arith, length-be_bytes 1 2, length-be_bytes 8 source, length-be_bytes 8 base, length-be_bytes 8 target))
 
-length-task : (t : Task) → length (task_spelling t) ≡ task_length t
+pub length-task : (t : Task) → length (task_spelling t) ≡ task_length t
 length-task t =
     let all = sum-5 (be_bytes 8 t.number) (job_spelling t.job) (be_bytes 1 (state_number t.state)) (be_bytes 4 t.done) (be_bytes 4 t.total) in
     omega (arith, all, length-be_bytes 8 t.number, length-job t.job, length-be_bytes 1 (state_number t.state), length-be_bytes 4 t.done, length-be_bytes 4 t.total)
 
-length-clone : (c : RunningClone Entry) → length (clone_spelling c) ≡ clone_length c
+pub length-clone : (c : RunningClone Entry) → length (clone_spelling c) ≡ clone_length c
 length-clone c =
     let all = sum-6 (be_bytes 8 c.container) (be_bytes 1 (type_number c.vtype)) (needs_spelling c.needs) (metadata_spelling c.metadata) (entries_spelling c.image) (entries_spelling c.target) in
     omega (arith, all, length-be_bytes 8 c.container, length-be_bytes 1 (type_number c.vtype), length-needed c.needs, length-metadata c.metadata, length-entries c.image, length-entries c.target)
 
-length-piece : (p : Piece Entry) → length (piece_spelling p) ≡ 16
+pub length-piece : (p : Piece Entry) → length (piece_spelling p) ≡ 16
 length-piece p = omega (arith, sum-2 (be_bytes 4 p.index) (entry_spelling p.chunk), length-be_bytes 4 p.index, length-entry p.chunk)
 
-length-copy : (c : RunningCopy Entry) → length (copy_spelling c) ≡ copy_length c
+pub length-copy : (c : RunningCopy Entry) → length (copy_spelling c) ≡ copy_length c
 length-copy c = omega (arith, length-counted 4 piece_spelling (λ p. 16) length-piece c.pieces, sum-same 16 (λ (p : Piece Entry). 16) (λ p. refl) c.pieces)
 
 -- ---- what running tasks hold
 
-abbrev RunsLong : List Task → Type 0
+abbrev pub RunsLong : List Task → Type 0
 RunsLong ts =
     (spelling : ℕ) (clones : List (RunningClone Entry)) (copies : List (RunningCopy Entry)) → are_runs spelling ts clones copies ≡ true
     → (length (runs_spelling ts clones copies) ≡ sum_by clone_length clones + sum_by copy_length copies) × (length clones + length copies ≤ length ts)
@@ -181,7 +181,7 @@ no_items : {A : Type 0} (xs : List A) → eqb (length xs) 0 ≡ true → xs ≡ 
 no_items [] h = refl
 no_items (x ∷ xs) h = let e = eqb-true (length (x ∷ xs)) 0 h in absurd (omega arith)
 
-runs_long : (ts : List Task) → RunsLong ts
+pub runs_long : (ts : List Task) → RunsLong ts
 unfolding are_runs runs_spelling
 runs_long [] spelling clones copies h =
     let both = and_parts (eqb (length clones) 0) (eqb (length copies) 0) h in

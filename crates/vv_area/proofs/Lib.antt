@@ -6,3 +6,4 @@ pub mod Each
 pub mod Texts
 pub mod WellFormed
 pub mod AreaLengths
+pub mod PieceLemmas

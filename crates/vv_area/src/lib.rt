@@ -22,3 +22,6 @@ pub use rows::{
     RawCopy, RawJob, RawPiece, RawTask, RawVolume,
 };
 pub use tables::RawTables;
+
+#[cfg(test)]
+mod tests;

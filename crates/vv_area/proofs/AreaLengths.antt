@@ -217,7 +217,7 @@ length-area spelling d h =
 
 -- ---- the most bytes
 
-each_in : {A : Type 0} (is_behind : List A → A → Bool) (P : A → Type 0) → ((before : List A) (x : A) → is_behind before x ≡ true → P x) → (before xs : List A) → each_behind is_behind before xs ≡ true → Each P xs
+pub each_in : {A : Type 0} (is_behind : List A → A → Bool) (P : A → Type 0) → ((before : List A) (x : A) → is_behind before x ≡ true → P x) → (before xs : List A) → each_behind is_behind before xs ≡ true → Each P xs
 each_in is_behind P one before [] h = tt
 each_in is_behind P one before (x ∷ xs) h =
     let both = and_parts (is_behind before x) (each_behind is_behind (before ++ x ∷ []) xs) h in

@@ -7,3 +7,4 @@ pub mod Texts
 pub mod WellFormed
 pub mod AreaLengths
 pub mod PieceLemmas
+pub mod ReadForms

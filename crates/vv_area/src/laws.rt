@@ -87,3 +87,9 @@ pub fn items_of_one_length_have_their_places()
     ensures pieces { (k : ℕ) → (xs : List (Piece Entry))
         → drop (16 * k) (flat_map piece_spelling xs) ≡ flat_map piece_spelling (drop k xs) }
 {}
+
+/// Tables that have a spelling have their form, and so have their fields. So those that are read have.
+pub fn spelled_tables_have_their_form()
+    ensures form { (spelling : ℕ) → (d : Durable Entry) → IsTrue (is_spellable spelling d) → IsTrue (is_formed d) }
+    ensures fields { (spelling : ℕ) → (d : Durable Entry) → IsTrue (is_spellable spelling d) → IsTrue (have_forms d) }
+{}

@@ -22,13 +22,13 @@ use Rattle.vv_record.proofs.Passing.{each_behind-alone, between}
 length-name : (name : List ℕ) → is_name name ≡ true → length name ≤ 24
 length-name name h = leb-true _ _ (and_parts _ _ (and_parts _ _ h).0).1
 
-length-key : (key : List ℕ) → is_key key ≡ true → length key ≤ 32
+pub length-key : (key : List ℕ) → is_key key ≡ true → length key ≤ 32
 length-key key h = leb-true _ _ (and_parts _ _ (and_parts _ _ h).0).1
 
-length-note : (note : List ℕ) → is_note note ≡ true → length note ≤ 96
+pub length-note : (note : List ℕ) → is_note note ≡ true → length note ≤ 96
 length-note note h = leb-true _ _ (and_parts _ _ h).0
 
-length-text : (text : List ℕ) → length (text_spelling text) ≡ 1 + length text
+pub length-text : (text : List ℕ) → length (text_spelling text) ≡ 1 + length text
 length-text text = omega (arith, length-append (be_bytes 1 (length text)) text, length-be_bytes 1 (length text))
 
 length-optional_note : (note : Option (List ℕ)) → is_optional_note note ≡ true → length (note_spelling note) ≤ 98
@@ -38,7 +38,7 @@ length-optional_note (Some note) h = omega (arith, length-append (be_bytes 1 1) 
 -- ---- lists
 
 -- items that are each at most so long
-length-items : {A : Type 0} (is_item : List A → A → Bool) (item : A → List ℕ) (w : ℕ) → ((before : List A) (next : A) → is_item before next ≡ true → length (item next) ≤ w)
+pub length-items : {A : Type 0} (is_item : List A → A → Bool) (item : A → List ℕ) (w : ℕ) → ((before : List A) (next : A) → is_item before next ≡ true → length (item next) ≤ w)
     → (before items : List A) → each_behind is_item before items ≡ true → length (flat_map item items) ≤ w * length items
 length-items is_item item w each before [] h = omega arith
 length-items is_item item w each before (next ∷ items) h =
@@ -48,13 +48,13 @@ length-items is_item item w each before (next ∷ items) h =
     let k : w * suc (length items) ≡ w + w * length items = omega arith in
     omega (arith, length-append (item next) (flat_map item items), front, back, k)
 
-length-list : {A : Type 0} (n : ℕ) (item : A → List ℕ) (items : List A) → length (list_spelling n item items) ≡ n + length (flat_map item items)
+pub length-list : {A : Type 0} (n : ℕ) (item : A → List ℕ) (items : List A) → length (list_spelling n item items) ≡ n + length (flat_map item items)
 length-list n item items = omega (arith, length-append (be_bytes n (length items)) (flat_map item items), length-be_bytes n (length items))
 
 length-offer : (before : List Offer) (offer : Offer) → is_offer_behind before offer ≡ true → length (offer_spelling offer) ≤ 33
 length-offer before offer h = omega (arith, length-append (text_spelling offer.name) (be_bytes 8 offer.value), length-be_bytes 8 offer.value, length-text offer.name, length-name offer.name (and_parts _ _ (and_parts _ _ h).0).0)
 
-length-offers : (offers : List Offer) → are_offers offers ≡ true → length (offers_spelling offers) ≤ 529
+pub length-offers : (offers : List Offer) → are_offers offers ≡ true → length (offers_spelling offers) ≤ 529
 length-offers offers h =
     let both = and_parts _ _ h in
     let count = (between 0 16 (length offers) both.0).to in
@@ -63,13 +63,13 @@ length-offers offers h =
 length-need : (before : List Need) (need : Need) → is_need_behind before need ≡ true → length (need_spelling need) ≤ 33
 length-need before need h = omega (arith, length-append (text_spelling need.name) (be_bytes 8 need.value), length-be_bytes 8 need.value, length-text need.name, length-name need.name (and_parts _ _ (and_parts _ _ h).0).0)
 
-length-needs : (needs : List Need) → are_needs needs ≡ true → length (needs_spelling needs) ≤ 265
+pub length-needs : (needs : List Need) → are_needs needs ≡ true → length (needs_spelling needs) ≤ 265
 length-needs needs h =
     let both = and_parts _ _ h in
     let count = (between 0 8 (length needs) both.0).to in
     omega (arith, length-list 1 need_spelling needs, length-items is_need_behind need_spelling 33 length-need [] needs both.1, count)
 
-length-endpoints : (endpoints : List EndpointId) → are_endpoints endpoints ≡ true → length (endpoints_spelling endpoints) ≤ 17
+pub length-endpoints : (endpoints : List EndpointId) → are_endpoints endpoints ≡ true → length (endpoints_spelling endpoints) ≤ 17
 length-endpoints endpoints h =
     let both = and_parts _ _ h in
     let count = (between 0 8 (length endpoints) both.0).to in
@@ -104,10 +104,10 @@ length-copies copies h =
 -- ---- events
 
 -- fields one behind the other
-length-2 : (m n : ℕ) (a b : List ℕ) → length a ≤ m → length b ≤ n → length (a ++ b) ≤ m + n
+pub length-2 : (m n : ℕ) (a b : List ℕ) → length a ≤ m → length b ≤ n → length (a ++ b) ≤ m + n
 length-2 m n a b p q = omega (arith, length-append a b)
 
-number-at_most : (n value : ℕ) → length (be_bytes n value) ≤ n
+pub number-at_most : (n value : ℕ) → length (be_bytes n value) ≤ n
 number-at_most n value = omega (arith, length-be_bytes n value)
 
 longer : (a b : ℕ) (text : List ℕ) → length text ≤ a → a ≤ b → length text ≤ b

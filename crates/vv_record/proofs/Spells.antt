@@ -195,7 +195,7 @@ text_spells low high body is lt within reads = record {
 
 -- ---- lists behind their count
 
-items_again : {A : Type 0} (item : List A → Form A) (text : A → List ℕ) (is : List A → A → Bool) → ((before : List A) → Spells (item before) text (is before))
+pub items_again : {A : Type 0} (item : List A → Form A) (text : A → List ℕ) (is : List A → A → Bool) → ((before : List A) → Spells (item before) text (is before))
     → (xs before : List A) (reader behind : ReaderState) → each_behind is before xs ≡ true → Stands reader (flat_map text xs) behind → items item (length xs) before reader ≡ Read (before ++ xs) behind
 unfolding items
 items_again item text is s [] before reader behind h p = rw (Stands-nothing reader behind p, append-nil before) refl
@@ -205,7 +205,7 @@ items_again item text is s (x ∷ xs) before reader behind h p =
     let middle = moved (length (text x)) reader in
     rw ((s before).again x reader middle both.0 q.0) (items_again item text is s xs (before ++ x ∷ []) middle behind both.1 q.1 ∙ ap (λ ys. Read ys behind) (append_assoc before (x ∷ []) xs))
 
-items_take : {A : Type 0} (item : List A → Form A) (text : A → List ℕ) (is : List A → A → Bool) → ((before : List A) → Spells (item before) text (is before))
+pub items_take : {A : Type 0} (item : List A → Form A) (text : A → List ℕ) (is : List A → A → Bool) → ((before : List A) → Spells (item before) text (is before))
     → (n : ℕ) (before ys : List A) (reader behind : ReaderState) → IsReader reader → items item n before reader ≡ Read ys behind
     → (xs : List A) × (before ++ xs ≡ ys) × (length xs ≡ n) × Stands reader (flat_map text xs) behind × (each_behind is before xs ≡ true)
 unfolding items

@@ -16,7 +16,7 @@ const QUOTA_LIMIT: u64 = 1 << 32;
 
 /// Reads fields one after the other.
 #[derive(Debug, Drop)]
-pub(crate) struct Fields<'a> {
+pub struct Fields<'a> {
     reader: Reader<'a>,
     /// How many bytes there are.
     end: usize,
@@ -34,7 +34,7 @@ impl<'a> Model for Fields<'a> {
 }
 
 impl<'a> Fields<'a> {
-    pub(crate) fn new(bytes: &'a [u8]) -> Fields<'a>
+    pub fn new(bytes: &'a [u8]) -> Fields<'a>
         ensures { result ≡ record { bytes = bytes.now; at = 0 } }
     {
         Fields {
@@ -44,21 +44,21 @@ impl<'a> Fields<'a> {
     }
 
     /// The place of the next byte.
-    pub(crate) fn at(&self) -> usize
+    pub fn at(&self) -> usize
         ensures { result ≡ self.now.at }
     {
         self.reader.at()
     }
 
     /// Whether no byte is left.
-    pub(crate) fn is_at_end(&self) -> bool
+    pub fn is_at_end(&self) -> bool
         ensures { result ≡ (self.now.at == length self.now.bytes) }
     {
         self.reader.at() == self.end
     }
 
     #[tactic(auto, unfolding(crate::specs::Reading::number))]
-    pub(crate) fn u8(&mut self) -> Result<u8, RecordFault>
+    pub fn u8(&mut self) -> Result<u8, RecordFault>
         ensures { Gives result self.new (number 1 self.old) }
     {
         match self.reader.u8() {
@@ -68,7 +68,7 @@ impl<'a> Fields<'a> {
     }
 
     #[tactic(auto, unfolding(crate::specs::Reading::number))]
-    pub(crate) fn u16(&mut self) -> Result<u16, RecordFault>
+    pub fn u16(&mut self) -> Result<u16, RecordFault>
         ensures { Gives result self.new (number 2 self.old) }
     {
         match self.reader.u16() {
@@ -78,7 +78,7 @@ impl<'a> Fields<'a> {
     }
 
     #[tactic(auto, unfolding(crate::specs::Reading::number))]
-    pub(crate) fn u32(&mut self) -> Result<u32, RecordFault>
+    pub fn u32(&mut self) -> Result<u32, RecordFault>
         ensures { Gives result self.new (number 4 self.old) }
     {
         match self.reader.u32() {
@@ -88,7 +88,7 @@ impl<'a> Fields<'a> {
     }
 
     #[tactic(auto, unfolding(crate::specs::Reading::number))]
-    pub(crate) fn u64(&mut self) -> Result<u64, RecordFault>
+    pub fn u64(&mut self) -> Result<u64, RecordFault>
         ensures { Gives result self.new (number 8 self.old) }
     {
         match self.reader.u64() {
@@ -99,7 +99,7 @@ impl<'a> Fields<'a> {
 
     /// So many bytes.
     #[tactic(auto, unfolding(crate::specs::Reading::bytes))]
-    pub(crate) fn bytes(&mut self, n: usize) -> Result<&'a [u8], RecordFault>
+    pub fn bytes(&mut self, n: usize) -> Result<&'a [u8], RecordFault>
         ensures { GivesSeen (λ bytes. bytes.now) result self.new (bytes_in n self.old) }
     {
         match self.reader.take(n) {
@@ -110,7 +110,7 @@ impl<'a> Fields<'a> {
 
     /// A number of one byte from `low` to `high`.
     #[tactic(auto, unfolding(crate::specs::Reading::number_within, crate::specs::Reading::allowed))]
-    pub(crate) fn u8_within(&mut self, low: u8, high: u8) -> Result<u8, RecordFault>
+    pub fn u8_within(&mut self, low: u8, high: u8) -> Result<u8, RecordFault>
         ensures { Gives result self.new (number_within 1 low high self.old) }
     {
         let at = self.at();
@@ -124,7 +124,7 @@ impl<'a> Fields<'a> {
 
     /// A number of 2 bytes from `low` to `high`.
     #[tactic(auto, unfolding(crate::specs::Reading::number_within, crate::specs::Reading::allowed))]
-    pub(crate) fn u16_within(&mut self, low: u16, high: u16) -> Result<u16, RecordFault>
+    pub fn u16_within(&mut self, low: u16, high: u16) -> Result<u16, RecordFault>
         ensures { Gives result self.new (number_within 2 low high self.old) }
     {
         let at = self.at();
@@ -138,7 +138,7 @@ impl<'a> Fields<'a> {
 
     /// A number of 4 bytes from `low` to `high`.
     #[tactic(auto, unfolding(crate::specs::Reading::number_within, crate::specs::Reading::allowed))]
-    pub(crate) fn u32_within(&mut self, low: u32, high: u32) -> Result<u32, RecordFault>
+    pub fn u32_within(&mut self, low: u32, high: u32) -> Result<u32, RecordFault>
         ensures { Gives result self.new (number_within 4 low high self.old) }
     {
         let at = self.at();
@@ -152,7 +152,7 @@ impl<'a> Fields<'a> {
 
     /// A quota, which is below 2^32.
     #[tactic(auto, unfolding(crate::specs::Forms::quota, crate::specs::Reading::allowed))]
-    pub(crate) fn quota(&mut self) -> Result<u64, RecordFault>
+    pub fn quota(&mut self) -> Result<u64, RecordFault>
         ensures { Gives result self.new (form.quota self.old) }
     {
         let at = self.at();
@@ -165,28 +165,28 @@ impl<'a> Fields<'a> {
     }
 
     #[tactic(auto, unfolding(crate::specs::Forms::volume))]
-    pub(crate) fn volume(&mut self) -> Result<VolumeId, RecordFault>
+    pub fn volume(&mut self) -> Result<VolumeId, RecordFault>
         ensures { Gives result self.new (form.volume self.old) }
     {
         Ok(VolumeId(self.u64()?))
     }
 
     #[tactic(auto, unfolding(crate::specs::Forms::container))]
-    pub(crate) fn container(&mut self) -> Result<ContainerId, RecordFault>
+    pub fn container(&mut self) -> Result<ContainerId, RecordFault>
         ensures { Gives result self.new (form.container self.old) }
     {
         Ok(ContainerId(self.u64()?))
     }
 
     #[tactic(auto, unfolding(crate::specs::Forms::task))]
-    pub(crate) fn task(&mut self) -> Result<TaskId, RecordFault>
+    pub fn task(&mut self) -> Result<TaskId, RecordFault>
         ensures { Gives result self.new (form.task self.old) }
     {
         Ok(TaskId(self.u64()?))
     }
 
     #[tactic(auto, unfolding(crate::specs::Forms::host))]
-    pub(crate) fn host(&mut self) -> Result<HostId, RecordFault>
+    pub fn host(&mut self) -> Result<HostId, RecordFault>
         ensures { Gives result self.new (form.host self.old) }
     {
         Ok(HostId(self.u32_within(1, 64)?))
@@ -194,21 +194,21 @@ impl<'a> Fields<'a> {
 
     /// An endpoint of any number.
     #[tactic(auto, unfolding(crate::specs::Forms::endpoint))]
-    pub(crate) fn endpoint(&mut self) -> Result<EndpointId, RecordFault>
+    pub fn endpoint(&mut self) -> Result<EndpointId, RecordFault>
         ensures { Gives result self.new (form.endpoint self.old) }
     {
         Ok(EndpointId(self.u16()?))
     }
 
     #[tactic(auto, unfolding(crate::specs::Forms::secondary))]
-    pub(crate) fn secondary(&mut self) -> Result<Secondary, RecordFault>
+    pub fn secondary(&mut self) -> Result<Secondary, RecordFault>
         ensures { Gives result self.new (form.secondary self.old) }
     {
         Ok(Secondary(self.u16()?))
     }
 
     #[tactic(auto, unfolding(crate::specs::Forms::place))]
-    pub(crate) fn place(&mut self) -> Result<Place, RecordFault>
+    pub fn place(&mut self) -> Result<Place, RecordFault>
         ensures { Gives result self.new (form.place self.old) }
     {
         Ok(Place(self.u32()?))
@@ -216,14 +216,14 @@ impl<'a> Fields<'a> {
 
     /// The number of chunks of a volume.
     #[tactic(auto, unfolding(crate::specs::Forms::size))]
-    pub(crate) fn size(&mut self) -> Result<u32, RecordFault>
+    pub fn size(&mut self) -> Result<u32, RecordFault>
         ensures { Gives result self.new (form.size self.old) }
     {
         self.u32_within(1, 1_048_576)
     }
 
     #[tactic(auto, unfolding(crate::specs::Forms::vvol_type_field))]
-    pub(crate) fn vvol_type(&mut self) -> Result<VvolType, RecordFault>
+    pub fn vvol_type(&mut self) -> Result<VvolType, RecordFault>
         ensures { Gives result self.new (form.vvol_type_field self.old) }
     {
         let value = self.u8_within(0, 4)?;
@@ -232,7 +232,7 @@ impl<'a> Fields<'a> {
 
     /// So many bytes that are a name.
     #[tactic(auto, unfolding(crate::specs::Forms::name_bytes, crate::specs::Reading::allowed))]
-    pub(crate) fn name(&mut self, alloc: Global, length: u8) -> Result<Name, RecordFault>
+    pub fn name(&mut self, alloc: Global, length: u8) -> Result<Name, RecordFault>
         ensures { Gives result self.new (form.name_bytes length self.old) }
     {
         let at = self.at();
@@ -244,7 +244,7 @@ impl<'a> Fields<'a> {
     }
 
     #[tactic(auto, unfolding(crate::specs::Forms::key, crate::specs::Reading::allowed))]
-    pub(crate) fn key(&mut self, alloc: Global) -> Result<Key, RecordFault>
+    pub fn key(&mut self, alloc: Global) -> Result<Key, RecordFault>
         ensures { Gives result self.new (form.key self.old) }
     {
         let length = self.u8_within(1, 32)?;
@@ -257,7 +257,7 @@ impl<'a> Fields<'a> {
     }
 
     #[tactic(auto, unfolding(crate::specs::Forms::note, crate::specs::Reading::allowed))]
-    pub(crate) fn note(&mut self, alloc: Global) -> Result<Note, RecordFault>
+    pub fn note(&mut self, alloc: Global) -> Result<Note, RecordFault>
         ensures { Gives result self.new (form.note self.old) }
     {
         let length = self.u8_within(0, 96)?;
@@ -271,7 +271,7 @@ impl<'a> Fields<'a> {
 
     /// A note behind a 1, or a 0.
     #[tactic(auto, unfolding(crate::specs::Forms::optional_note))]
-    pub(crate) fn optional_note(&mut self, alloc: Global) -> Result<Option<Note>, RecordFault>
+    pub fn optional_note(&mut self, alloc: Global) -> Result<Option<Note>, RecordFault>
         ensures { Gives result self.new (form.optional_note self.old) }
     {
         let present = self.u8_within(0, 1)?;

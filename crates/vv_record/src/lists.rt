@@ -11,7 +11,7 @@ use std::alloc::Global;
 use vv_units::{EndpointId, ItemList, Name, Need, NeedList, Offer, OfferList, Place};
 
 #[tactic(auto, unfolding(crate::specs::Forms::offers))]
-pub(crate) fn offers(alloc: Global, fields: &mut Fields) -> Result<OfferList, RecordFault>
+pub fn offers(alloc: Global, fields: &mut Fields) -> Result<OfferList, RecordFault>
     ensures { Gives result fields.new (form.offers fields.old) }
 {
     let count = fields.u8_within(0, 16)?;
@@ -60,7 +60,7 @@ fn offers_have(offers: &[Offer], name: &[u8]) -> bool
 }
 
 #[tactic(auto, unfolding(crate::specs::Forms::needs))]
-pub(crate) fn needs(alloc: Global, fields: &mut Fields) -> Result<NeedList, RecordFault>
+pub fn needs(alloc: Global, fields: &mut Fields) -> Result<NeedList, RecordFault>
     ensures { Gives result fields.new (form.needs fields.old) }
 {
     let count = fields.u8_within(0, 8)?;
@@ -165,7 +165,7 @@ fn range(fields: &mut Fields) -> Result<ChunkRange, RecordFault>
 }
 
 #[tactic(auto, unfolding(crate::specs::Forms::endpoints))]
-pub(crate) fn endpoints(alloc: Global, fields: &mut Fields) -> Result<EndpointList, RecordFault>
+pub fn endpoints(alloc: Global, fields: &mut Fields) -> Result<EndpointList, RecordFault>
     ensures { Gives result fields.new (form.endpoints fields.old) }
 {
     let count = fields.u8_within(0, 8)?;

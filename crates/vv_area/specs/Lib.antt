@@ -1,0 +1,9 @@
+pub mod Faults
+pub mod Places
+pub mod Jobs
+pub mod Forms
+pub mod Runs
+pub mod Spelling
+pub mod Lengths
+pub mod Pieces
+pub mod Area

@@ -245,7 +245,7 @@ copies_interrupted d e =
     and_both _ _ (and_both _ _ refl (ap all_different (no_targets d.tasks)))
     (all_interrupted has_done has_done still_done d.tasks (and_right _ _ e))
 
-kept_interrupted : (d : Durable ℕ) → Kept d → Kept (interrupted_durable d)
+pub kept_interrupted : (d : Durable ℕ) → Kept d → Kept (interrupted_durable d)
 kept_interrupted d k = record {
   form = form_interrupted d k.form;
   numbers = numbers_interrupted d k.numbers;
@@ -283,7 +283,7 @@ stays_right : (d : Durable Entry) (a : Standing) → is_shared_rightly d a ≡ t
 stays_right d a e =
     and_both _ _ (and_both _ _ (and_left _ _ (and_left _ _ e)) refl) (pieces_left d (agrees a.piece) (and_right _ _ e))
 
-sharing_interrupted : (d : Durable Entry) → shares d ≡ true → shares (interrupted_durable d) ≡ true
+pub sharing_interrupted : (d : Durable Entry) → shares d ≡ true → shares (interrupted_durable d) ≡ true
 unfolding shares
 sharing_interrupted d e =
     list_all-follows (is_shared_rightly d) (is_shared_rightly (interrupted_durable d)) (stays_right d) (standings (interrupted_durable d))
@@ -303,7 +303,7 @@ interruption_keeps tables form rules =
 none_passes : (limit : ℕ) → nat_le 0 limit ≡ true
 none_passes limit = le-leb 0 limit (omega arith)
 
-empty_kept : (geometry : Geometry) → Kept (empty_durable {X = ℕ} geometry)
+pub empty_kept : (geometry : Geometry) → Kept (empty_durable {X = ℕ} geometry)
 unfolding is_formed numbers_rule names_rule limits_rule entries sizes_rule space_rule used reserved charge bindings_rule clones_rule copies_rule
 empty_kept geometry = record {
   form = refl;

@@ -30,7 +30,7 @@ use Rattle.vv_flat.proofs.KeepBindings.{bindings_stay}
 use Rattle.vv_flat.proofs.KeepClones.{clones_stay}
 use Rattle.vv_flat.proofs.KeepCopies.{copies_stay}
 
-geometry_stays : (d : Durable ℕ) (change : Change) → (apply_shape d change).geometry ≡ d.geometry
+pub geometry_stays : (d : Durable ℕ) (change : Change) → (apply_shape d change).geometry ≡ d.geometry
 unfolding apply_shape apply
 geometry_stays d change = geometry-effect (λ s. s) (map (λ _. new_stamp d change) (changed_indexes (λ s. s) d change)) 0 d change
 
@@ -62,7 +62,7 @@ shape_rules_stay misfit d change rules fields accepted =
     })
 
 -- the form is one of numbers alone, and so that of the shape
-form_of_shape : (tables : Durable Entry) → is_formed (shape_of_tables tables) ≡ is_formed tables
+pub form_of_shape : (tables : Durable Entry) → is_formed (shape_of_tables tables) ≡ is_formed tables
 unfolding is_formed
 form_of_shape tables =
     let volumes = map-after (map_volume (λ (e : Entry). e.stamp)) (λ (v : Volume ℕ). v.number) (λ (v : Volume Entry). v.number) (λ v. refl) tables.volumes in
@@ -123,12 +123,12 @@ meets_all tables k shared =
     ∙ and_both _ _ k.numbers (and_both _ _ k.names (and_both _ _ k.limits (and_both _ _ k.sizes (and_both _ _ k.space
     (and_both _ _ shared (and_both _ _ k.bindings (and_both _ _ k.clones (and_both _ _ k.copies refl))))))))
 
-accepted_is : (v : Verdict) → is_accepted v ≡ true → v ≡ Accept
+pub accepted_is : (v : Verdict) → is_accepted v ≡ true → v ≡ Accept
 accepted_is (Refuse r) e = absurd (cc)
 accepted_is Nothing e = absurd (cc)
 accepted_is Accept e = refl
 
-fits_accepted : (tables : Durable Entry) (change : Change) (places : List ℕ) → fits tables change places ≡ true
+pub fits_accepted : (tables : Durable Entry) (change : Change) (places : List ℕ) → fits tables change places ≡ true
     → judge None (shape_of_tables tables) change ≡ Accept
 unfolding fits
 fits_accepted tables change places e = accepted_is _ (and_left _ _ (and_left _ _ (and_left _ _ e)))

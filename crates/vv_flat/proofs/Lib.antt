@@ -31,3 +31,4 @@ pub mod KeepNumbers
 pub mod KeepLimits
 pub mod KeepRules
 pub mod KeepInterrupted
+pub mod NamedPlaces

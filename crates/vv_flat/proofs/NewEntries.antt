@@ -59,13 +59,13 @@ none_counted p (x ∷ xs) e =
 
 -- Numbers that rise.
 
-above_each : (n m : ℕ) → n ≤ m → (xs : List ℕ) → all_above m xs ≡ true → list_all (nat_lt n) xs ≡ true
+pub above_each : (n m : ℕ) → n ≤ m → (xs : List ℕ) → all_above m xs ≡ true → list_all (nat_lt n) xs ≡ true
 above_each n m le [] e = refl
 above_each n m le (x ∷ xs) e =
     let lt : m < x = ltb-true m x (and_left (nat_lt m x) (all_above x xs) e) in
     and_both (nat_lt n x) _ (lt-ltb n x (omega arith)) (above_each n x (omega arith) xs (and_right (nat_lt m x) (all_above x xs) e))
 
-above_rises : (n : ℕ) (xs : List ℕ) → all_above n xs ≡ true → all_rising xs ≡ true
+pub above_rises : (n : ℕ) (xs : List ℕ) → all_above n xs ≡ true → all_rising xs ≡ true
 above_rises n [] e = refl
 above_rises n (x ∷ xs) e = and_right (nat_lt n x) (all_above x xs) e
 
@@ -90,7 +90,7 @@ numbers_above n first zero e = refl
 numbers_above n first (suc count) e =
     and_both (nat_lt n first) _ (lt-ltb n first e) (numbers_above first (first + 1) count (omega arith))
 
-numbers_rise : (first count : ℕ) → all_rising (numbers_from first count) ≡ true
+pub numbers_rise : (first count : ℕ) → all_rising (numbers_from first count) ≡ true
 numbers_rise first zero = refl
 numbers_rise first (suc count) = numbers_above first (first + 1) count (omega arith)
 

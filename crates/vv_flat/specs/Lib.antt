@@ -11,8 +11,13 @@ pub mod Profiles
 pub mod Refusals
 pub mod Changes
 pub mod Sharing
+pub mod NamedPlaces
 pub mod Rules
 pub mod Fields
 pub mod Form
+pub mod WellFormed
 pub mod Replay
+pub mod Plans
 pub mod Flat
+pub mod Answers
+pub mod Logs

@@ -1,13 +1,14 @@
 //! Laws of the definitions. Each is a function without arguments that does nothing: what it ensures is the law.
 ghost use Rattle.std.specs.Prelude.{◌≡◌, ◌≤◌, ℕ, ◌+◌, List, map, Option, IsTrue};
 ghost use Rattle.vv_units.specs.declared.geometry.Geometry.{Geometry};
-ghost use Rattle.vv_flat.specs.State.{Array, Durable, empty_durable, map_durable};
+ghost use Rattle.vv_flat.specs.State.{Array, Durable, Piece, all_pieces, empty_durable, map_durable};
 ghost use Rattle.vv_flat.specs.Chunks.{ChunkValue, Entry, filled, unmapped_value, unmapped_entry, shape, shape_of_tables, filled_tables, placed_entries};
 ghost use Rattle.vv_flat.specs.Restart.{restarted, interrupted_durable, interrupted};
 ghost use Rattle.vv_flat.specs.Profiles.{Misfit};
 ghost use Rattle.vv_flat.specs.Refusals.{Nothing, Accept};
 ghost use Rattle.vv_flat.specs.Space.{used, reserved, entries};
-ghost use Rattle.vv_flat.specs.Sharing.{shares, stamps_tell_bytes};
+ghost use Rattle.vv_flat.specs.Sharing.{shares, shares_places, stamps_tell_bytes};
+ghost use Rattle.vv_flat.specs.NamedPlaces.{named_count, used_by};
 ghost use Rattle.vv_flat.specs.Form.{is_formed};
 ghost use Rattle.vv_flat.specs.Rules.{numbers_rule, names_rule, clones_rule, copies_rule, charges_fit, keeps_shape_rules, has_its_fields, meets_rules};
 ghost use Rattle.vv_flat.specs.Changes.{Change, judge, effect, apply, apply_shape, new_stamp};
@@ -155,4 +156,17 @@ pub fn an_interruption_keeps_all_rules()
 /// The tables of an empty array have their form and meet all nine rules.
 pub fn the_empty_tables_meet_all_rules()
     ensures { (geometry : Geometry) → IsTrue (is_formed (empty_durable {X = Entry} geometry)) × IsTrue (meets_rules (empty_durable geometry)) }
+{}
+
+/// Entries that share places rightly use as many chunks of the pool as they name places: a pair of index and stamp has
+/// one place, and no other pair has it.
+pub fn shared_entries_use_what_they_name()
+    ensures { (pool_chunks : ℕ) → (all : List (Piece Entry)) → IsTrue (shares_places pool_chunks all)
+        → used_by all ≡ named_count pool_chunks all }
+{}
+
+/// And so do all entries of tables.
+pub fn tables_use_what_they_name()
+    ensures { (tables : Durable Entry) → IsTrue (shares tables)
+        → used (shape_of_tables tables) ≡ named_count tables.geometry.pool_chunks (all_pieces tables) }
 {}

@@ -11,6 +11,7 @@ pub use laws::{
     arrays_of_one_shape_are_answered_alike, arrays_of_one_shape_keep_one_shape,
     changes_go_with_the_chunks, charges_stay_within_quotas, chunks_stay_within_the_pool,
     entries_stay_within_the_map, filled_tables_go_as_the_flat_array, nothing_leaves_all_as_it_is,
-    shared_entries_have_the_same_bytes, the_empty_tables_meet_all_rules,
-    the_rules_of_the_shape_stay, the_shape_goes_its_own_way,
+    shared_entries_have_the_same_bytes, shared_entries_use_what_they_name,
+    tables_use_what_they_name, the_empty_tables_meet_all_rules, the_rules_of_the_shape_stay,
+    the_shape_goes_its_own_way,
 };

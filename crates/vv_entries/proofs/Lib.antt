@@ -7,3 +7,4 @@ pub mod Added
 pub mod PlaceCounts
 pub mod Started
 pub mod Awaited
+pub mod Owners

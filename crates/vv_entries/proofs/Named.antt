@@ -102,3 +102,15 @@ pub named_in-none : (store : StoreState Entry) (p : ℕ) → ((n : ℕ) → page
 unfolding named_in
 named_in-none store p blank =
     let all = sum_few (named p) 0 store.pages (λ n. let none = ap (named p) (blank n) in omega (arith, named-nil p)) in omega arith
+
+-- where a place is named at all, some page names it
+some_part : (f : List Entry → ℕ) (xs : List (List Entry)) → 1 ≤ sum_by f xs → (n : ℕ) × (1 ≤ f (get_or xs n []))
+some_part f [] h = absurd (omega arith)
+some_part f (x ∷ xs) h = ⊎_elim
+    (λ some. (0, some))
+    (λ none. let rest = some_part f xs (omega (arith, sum_by-cons f x xs)) in (suc rest.0, rest.1))
+    (cases_lt 0 (f x))
+
+pub named_some : (store : StoreState Entry) (p : ℕ) → 1 ≤ named_in store p → (n : ℕ) × (1 ≤ named p (page_at store n))
+unfolding named_in
+named_some store p h = some_part (named p) store.pages h

@@ -22,11 +22,11 @@ numbers-append : (n : ℕ) (ls ms : List MapState) → times n (all_numbers (ls 
 numbers-append n ls ms = ap (times n) (flat_map-append (λ (map : MapState). map.numbers) ls ms) ∙ times-append n (all_numbers ls) (all_numbers ms)
 
 -- what holds of all items of two lists holds of those of each
-All-front : (P : MapState → Type 0) (ls ms : List MapState) → All P (ls ++ ms) → All P ls
+pub All-front : (P : MapState → Type 0) (ls ms : List MapState) → All P (ls ++ ms) → All P ls
 All-front P [] ms all = All-nil P
 All-front P (l ∷ ls) ms all = All-cons P l ls (All-head P l (ls ++ ms) all) (All-front P ls ms (All-tail P l (ls ++ ms) all))
 
-All-back : (P : MapState → Type 0) (ls ms : List MapState) → All P (ls ++ ms) → All P ms
+pub All-back : (P : MapState → Type 0) (ls ms : List MapState) → All P (ls ++ ms) → All P ms
 All-back P [] ms all = all
 All-back P (l ∷ ls) ms all = All-back P ls ms (All-tail P l (ls ++ ms) all)
 

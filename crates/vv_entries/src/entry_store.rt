@@ -135,6 +135,7 @@ impl EntryStore {
         ensures of { IsMapOf self.new.store map.new }
         ensures others { Exchanges self.old.store self.new.store map.old.numbers map.new.numbers }
         ensures pool { KeepsFresh (with_count self.old.pool fresh 1) self.new.pool }
+        ensures alone { count_at self.new.store (slice_index map.new.numbers (at / 64)) ≡ 1 }
         ensures rise { steps.old ≤ steps.new }
         ensures steps { steps.new ≤ steps.old + 64 }
         ensures left { room.old.pages ≤ room.new.pages + 1 }
@@ -162,6 +163,7 @@ impl EntryStore {
         ensures of { IsMapOf self.new.store map.new }
         ensures others { Exchanges self.old.store self.new.store map.old.numbers map.new.numbers }
         ensures pool { KeepsFresh self.old.pool self.new.pool }
+        ensures alone { count_at self.new.store (slice_index map.new.numbers (at / 64)) ≡ 1 }
         ensures rise { steps.old ≤ steps.new }
         ensures steps { steps.new ≤ steps.old + 64 }
         ensures left { room.old.pages ≤ room.new.pages + 1 }
@@ -191,6 +193,7 @@ impl EntryStore {
         ensures of { IsMapOf self.new.store map.new }
         ensures others { Exchanges self.old.store self.new.store map.old.numbers map.new.numbers }
         ensures pool { KeepsFresh self.old.pool self.new.pool }
+        ensures alone { count_at self.new.store (slice_index map.new.numbers (at / 64)) ≡ 1 }
         ensures rise { steps.old ≤ steps.new }
         ensures steps { steps.new ≤ steps.old + 65 }
         ensures left { room.old.pages ≤ room.new.pages + 1 }

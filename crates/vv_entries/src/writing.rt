@@ -64,6 +64,7 @@ pub(crate) fn replace(
     ensures same { map.new ≡ map.old }
     ensures of { IsMapOf store.new map.new }
     ensures list { list_of store.new map.new ≡ slice_set (list_of store.old map.old) at entry }
+    ensures counts { store.new.counts ≡ store.old.counts }
     ensures others { Exchanges store.old store.new map.old.numbers map.new.numbers }
     ensures pool { KeepsFresh pool.old pool.new }
 {

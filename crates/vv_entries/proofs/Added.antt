@@ -6,7 +6,7 @@ use Rattle.vv_map.specs.Rooms.{MapState}
 use Rattle.vv_map.specs.Pages.{StoreState, page_at, count_at, with_entries, last_filled, Appends, IsMapOf}
 use Rattle.vv_entries.specs.declared.entry.Entry.{Entry}
 use Rattle.vv_entries.specs.Entries.{named, named_in, unmapped, IsTidy}
-use Rattle.vv_entries.specs.Changes.{times, Exchanges}
+use Rattle.vv_entries.specs.Changes.{times, Exchanges, TakesUnused}
 use Rattle.vv_entries.proofs.Times.{times-append, times_stands, out_from_times, times_apart}
 use Rattle.vv_entries.proofs.Named.{named-nil, named-unmapped, named_filled, named_in-same, named_in-set}
 use Rattle.vv_entries.proofs.Shared.{within_counts}
@@ -75,6 +75,14 @@ module _ (old new : StoreState Entry) (numbers numbers' : List ℕ) (n : ℕ) (a
     pages = λ p h. added.other_pages p (omega arith);
     size = added.counts;
   }
+
+  pub takes-appended : TakesUnused old numbers numbers'
+  takes-appended p some =
+      let both : times p numbers' ≡ times p numbers + times p (drop (length numbers) numbers') = ap (times p) split ∙ times-append p numbers (drop (length numbers) numbers') in
+      ⊎_elim
+      (λ (w : IsNew p). let was = w.1 in absurd (omega arith))
+      (λ (w : IsOld p). let none = w.0 in omega arith)
+      (at_page p)
 
   pub named-appended : (p : ℕ) → IsTidy old → named_in new p ≡ named_in old p
   named-appended p tidy = named_in-same old new p added.pages (λ k. ⊎_elim

@@ -6,7 +6,7 @@ use Rattle.vv_map.specs.Rooms.{MapState}
 use Rattle.vv_map.specs.Pages.{StoreState, page_at, count_at, with_page, with_entries, lowered, Unshares}
 use Rattle.vv_entries.specs.declared.entry.Entry.{Entry}
 use Rattle.vv_entries.specs.Entries.{named, named_in, IsTidy}
-use Rattle.vv_entries.specs.Changes.{times, Exchanges}
+use Rattle.vv_entries.specs.Changes.{times, Exchanges, TakesUnused}
 use Rattle.vv_entries.proofs.Times.{same_bit, same_bit_yes, same_bit_no, times-set, times_in}
 use Rattle.vv_entries.proofs.Named.{name_bit, named-nil, named_in-set, named-set}
 use Rattle.vv_entries.proofs.PlaceCounts.{named_one}
@@ -72,6 +72,13 @@ module _ (old new : StoreState Entry) (map map' : MapState) (i : ℕ) (un : Unsh
     size = ap (λ s. length s.counts) un.copied ∙ length-set (lowered old (slice_index map.numbers i)).counts (slice_index map'.numbers i) 1
         ∙ ap (λ s. length s.counts) (lowered_more old (slice_index map.numbers i) (λ one. omega arith)) ∙ length-set old.counts (slice_index map.numbers i) (count_at old (slice_index map.numbers i) - 1);
   }
+
+  pub takes-unshared : TakesUnused old map.numbers map'.numbers
+  takes-unshared n some =
+      let stands = times-set n map.numbers i (slice_index map'.numbers i) within in
+      let numbers : times n map'.numbers ≡ times n (set map.numbers i (slice_index map'.numbers i)) = ap (times n) un.numbers in
+      let other = same_bit_no (slice_index map'.numbers i) n (λ e. counted_other n some (sym e)) in
+      omega arith
 
   -- the names of the copied page come twice from now on
   pub named-unshared : (p : ℕ) → IsTidy old → named_in new p ≡ named_in old p + named p (page_at old (slice_index map.numbers i))

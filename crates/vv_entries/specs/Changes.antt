@@ -41,3 +41,7 @@ AreCounted pool entries = (p : ℕ) → 1 ≤ named p entries → 1 ≤ count_of
 pub record IsAwaiting (store : StoreState Entry) (pool : PoolState) (entry : Entry) : Type 0 where
   pub tidy : IsTidy store
   pub counted : (p : ℕ) → count_of pool p ≡ named_in store p + named p (entry ∷ [])
+
+-- The pages that a list names now are ones that it named before, or ones that were unused.
+abbrev pub TakesUnused : StoreState Entry → List ℕ → List ℕ → Type 0
+TakesUnused old before after = (n : ℕ) → 1 ≤ count_at old n → times n after ≤ times n before

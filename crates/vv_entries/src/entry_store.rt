@@ -5,7 +5,7 @@ ghost use Rattle.vv_map.specs.Pages.{count_at, list_of, pages_for, unused_pages,
 ghost use Rattle.vv_pool.specs.Pool.{IsFresh, IsFree, count_of, free_of, lowest_places, room_for, with_fresh, with_count, with_reserved};
 ghost use Rattle.vv_pool.specs.FreshPlaces.{appended};
 ghost use Rattle.vv_entries.specs.Entries.{EntriesState, unmapped, placed, empty_entries, with_pool, IsCounted, named_in};
-ghost use Rattle.vv_entries.specs.Changes.{AreCounted, Exchanges, KeepsFresh, IsAwaiting};
+ghost use Rattle.vv_entries.specs.Changes.{AreCounted, Exchanges, KeepsFresh, TakesUnused, IsAwaiting};
 
 use crate::entry::Entry;
 use crate::places::lower_ended;
@@ -71,6 +71,7 @@ impl EntryStore {
         ensures list { list_of self.new.store result ≡ replicate n unmapped }
         ensures of { IsMapOf self.new.store result }
         ensures others { Exchanges self.old.store self.new.store [] result.numbers }
+        ensures taken { TakesUnused self.old.store [] result.numbers }
         ensures pool { self.new.pool ≡ self.old.pool }
     {
         self.store.make(n, Entry::unmapped(), room)
@@ -134,6 +135,7 @@ impl EntryStore {
         ensures len { map.new.len ≡ map.old.len }
         ensures of { IsMapOf self.new.store map.new }
         ensures others { Exchanges self.old.store self.new.store map.old.numbers map.new.numbers }
+        ensures taken { TakesUnused self.old.store map.old.numbers map.new.numbers }
         ensures pool { KeepsFresh (with_count self.old.pool fresh 1) self.new.pool }
         ensures alone { count_at self.new.store (slice_index map.new.numbers (at / 64)) ≡ 1 }
         ensures rise { steps.old ≤ steps.new }
@@ -162,6 +164,7 @@ impl EntryStore {
         ensures len { map.new.len ≡ map.old.len }
         ensures of { IsMapOf self.new.store map.new }
         ensures others { Exchanges self.old.store self.new.store map.old.numbers map.new.numbers }
+        ensures taken { TakesUnused self.old.store map.old.numbers map.new.numbers }
         ensures pool { KeepsFresh self.old.pool self.new.pool }
         ensures alone { count_at self.new.store (slice_index map.new.numbers (at / 64)) ≡ 1 }
         ensures rise { steps.old ≤ steps.new }
@@ -192,6 +195,7 @@ impl EntryStore {
         ensures len { map.new.len ≡ map.old.len }
         ensures of { IsMapOf self.new.store map.new }
         ensures others { Exchanges self.old.store self.new.store map.old.numbers map.new.numbers }
+        ensures taken { TakesUnused self.old.store map.old.numbers map.new.numbers }
         ensures pool { KeepsFresh self.old.pool self.new.pool }
         ensures alone { count_at self.new.store (slice_index map.new.numbers (at / 64)) ≡ 1 }
         ensures rise { steps.old ≤ steps.new }
@@ -222,6 +226,7 @@ impl EntryStore {
         ensures len { map.new.len ≡ n }
         ensures of { IsMapOf self.new.store map.new }
         ensures others { Exchanges self.old.store self.new.store map.old.numbers map.new.numbers }
+        ensures taken { TakesUnused self.old.store map.old.numbers map.new.numbers }
         ensures pool { KeepsFresh self.old.pool self.new.pool }
         ensures rise { steps.old ≤ steps.new }
         ensures steps { steps.new ≤ steps.old + 64 }

@@ -3,7 +3,7 @@ ghost use Rattle.std.specs.Prelude.{ℕ, ◌≡◌, ◌+◌, ◌-◌, ◌*◌, �
 ghost use Rattle.vv_map.specs.Pages.{count_at, list_of, pages_for, unused_pages, IsMapOf};
 ghost use Rattle.vv_pool.specs.Pool.{IsFresh, count_of, with_count};
 ghost use Rattle.vv_entries.specs.Entries.{IsCounted, placed, unmapped};
-ghost use Rattle.vv_entries.specs.Changes.{AreCounted, Exchanges, KeepsFresh, IsAwaiting};
+ghost use Rattle.vv_entries.specs.Changes.{AreCounted, Exchanges, KeepsFresh, TakesUnused, IsAwaiting};
 
 use crate::entry::Entry;
 use crate::places::{lower_entry, raise_entry, raise_page};
@@ -31,6 +31,7 @@ pub(crate) fn own_page<L: Ledger>(
     ensures len { map.new.len ≡ map.old.len }
     ensures size { length map.new.numbers ≡ length map.old.numbers }
     ensures alone { count_at store.new (slice_index map.new.numbers (at / 64)) ≡ 1 }
+    ensures taken { TakesUnused store.old map.old.numbers map.new.numbers }
     ensures others { Exchanges store.old store.new map.old.numbers map.new.numbers }
     ensures pool { KeepsFresh pool.old pool.new }
     ensures counts { (p : ℕ) → count_of pool.old p ≤ count_of pool.new p }
@@ -121,6 +122,7 @@ pub(crate) fn own_last_page<L: Ledger>(
     ensures len { map.new.len ≡ map.old.len }
     ensures size { length map.new.numbers ≡ length map.old.numbers }
     ensures alone { 0 < map.old.len % 64 → count_at store.new (slice_index map.new.numbers (map.old.len / 64)) ≡ 1 }
+    ensures taken { TakesUnused store.old map.old.numbers map.new.numbers }
     ensures others { Exchanges store.old store.new map.old.numbers map.new.numbers }
     ensures pool { KeepsFresh pool.old pool.new }
     ensures rise { steps.old ≤ steps.new }
@@ -156,6 +158,7 @@ pub(crate) fn append(
     ensures of { IsMapOf store.new map.new }
     ensures list { list_of store.new map.new ≡ list_of store.old map.old ++ replicate (n - map.old.len) unmapped }
     ensures len { map.new.len ≡ n }
+    ensures taken { TakesUnused store.old map.old.numbers map.new.numbers }
     ensures others { Exchanges store.old store.new map.old.numbers map.new.numbers }
 {
     let _counts = pool;

@@ -3,7 +3,7 @@ use Rattle.vv_map.specs.Pages.{page_at}
 use Rattle.vv_map.proofs.MapLemmas.{page_within}
 use Rattle.vv_entries.specs.Entries.{named}
 use Rattle.vv_entries.proofs.Named.{named-le-named_in, named_in-few}
-use Rattle.vv_entries.proofs.Written.{page_own, exchanges-unshared, named-unshared, tidy-unshared}
+use Rattle.vv_entries.proofs.Written.{page_own, exchanges-unshared, named-unshared, takes-unshared, tidy-unshared}
 use Rattle.vv_entries.proofs.writing.own_page.Given.{Over}
 use Rattle.vv_entries.proofs.writing.own_page.Goals as goal
 use Rattle.vv_entries.proofs.writing.own_page.Goals.{After-page}
@@ -52,3 +52,9 @@ returns-then-unshare-clause-others g c =
     let old = c.args.store.now in
     let map = c.args.map.now in
     exchanges-unshared old c.unshare.new.self map c.unshare.new.map (c.args.at / 64) c.if-unshare.ensures.unshared (c.if-unshare.ensures.copied.0 refl) (page_within old map c.requires.of c.args.at c.requires.within)
+
+pub returns-then-unshare-clause-taken : goal.returns-then-unshare-clause-taken
+returns-then-unshare-clause-taken g c =
+    let old = c.args.store.now in
+    let map = c.args.map.now in
+    takes-unshared old c.unshare.new.self map c.unshare.new.map (c.args.at / 64) c.if-unshare.ensures.unshared (c.if-unshare.ensures.copied.0 refl) (page_within old map c.requires.of c.args.at c.requires.within)

@@ -79,6 +79,12 @@ impl<E: Copy> Page<E> {
         self.entries[at]
     }
 
+    pub(crate) fn entries(&self) -> &[E]
+        ensures { result.now ≡ self.now }
+    {
+        &self.entries
+    }
+
     pub(crate) fn set(&mut self, at: usize, entry: E)
         requires { at < length self.old }
         ensures { self.new ≡ slice_set self.old at entry }

@@ -63,8 +63,18 @@ impl<E: Copy> PageStore<E> {
         }
     }
 
+    /// Takes memory for so many pages, and for the numbers of a list of as many. Their places in the store are not taken.
+    pub fn room(&self, pages: u32) -> Result<PageRoom<E>, NoMemory>
+        ensures { IfOk result (λ room. room ≡ record { pages = pages; numbers = pages }) }
+    {
+        match PageRoom::new(self.alloc, pages) {
+            Ok(room) => Ok(room),
+            Err(_) => Err(NoMemory),
+        }
+    }
+
     /// Adds unused pages.
-    fn extend(&mut self, more: usize) -> Result<(), NoMemory>
+    pub fn extend(&mut self, more: usize) -> Result<(), NoMemory>
         requires { more < 2 ^ 32 }
         ensures ok { OnOk result (self.new ≡ extended self.old more) }
         ensures unused { OnOk result (unused_pages self.new ≡ unused_pages self.old + more) }
@@ -238,6 +248,16 @@ impl<E: Copy> PageStore<E> {
         let at = at as usize;
         let number = map.numbers[at / PAGE];
         self.pages[number as usize].get(at % PAGE)
+    }
+
+    /// The entries of the page that has a place of a list.
+    pub fn page<'a>(&'a self, map: &PagedMap<E>, at: u32) -> &'a [E]
+        requires of { IsMapOf self.now map.now }
+        requires within { at < map.now.len }
+        ensures { result.now ≡ page_at self.now (slice_index map.now.numbers (at / 64)) }
+    {
+        let number = map.numbers[at as usize / PAGE];
+        self.pages[number as usize].entries()
     }
 
     /// How many entries a list has.

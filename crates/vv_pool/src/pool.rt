@@ -101,6 +101,7 @@ impl Pool {
         requires { length out.old.places + n ≤ out.old.capacity }
         ensures room { result ≡ room_for self.old n }
         ensures taken { OnOk result (self.new ≡ with_fresh self.old (lowest_places self.old n)) }
+        ensures count { OnOk result (length (lowest_places self.old n) ≡ n) }
         ensures out { OnOk result (out.new ≡ appended out.old (lowest_places self.old n)) }
         ensures err { OnErr result (self.new ≡ self.old) }
         ensures err_out { OnErr result (out.new ≡ out.old) }
@@ -115,6 +116,7 @@ impl Pool {
         requires reserved { n ≤ self.old.reserved }
         requires room { length out.old.places + n ≤ out.old.capacity }
         ensures taken { self.new ≡ with_reserved (with_fresh self.old (lowest_places self.old n)) (self.old.reserved - n) }
+        ensures count { length (lowest_places self.old n) ≡ n }
         ensures out { out.new ≡ appended out.old (lowest_places self.old n) }
     {
         self.unreserve(n);
@@ -205,6 +207,7 @@ impl Pool {
         requires free { n ≤ free_of self.old }
         requires room { length out.old.places + n ≤ out.old.capacity }
         ensures taken { self.new ≡ with_fresh self.old (lowest_places self.old n) }
+        ensures count { length (lowest_places self.old n) ≡ n }
         ensures out { out.new ≡ appended out.old (lowest_places self.old n) }
     {
         for _taken in 0..n {

@@ -1,10 +1,10 @@
 use Rattle.std.proofs.Common.{ℕ, ◌≡◌, List, [], ◌∷◌, ◌++◌, take, ap, ◌∙◌, sym, arith}
-use Rattle.std.proofs.lemmas.List.{append_assoc}
+use Rattle.std.proofs.lemmas.List.{append_assoc, length-take-le}
 use Rattle.vv_pool.specs.declared.place_use.PlaceUse.{PlaceUse}
 use Rattle.vv_pool.specs.declared.place_use.PlaceUse.TheVariants.{Fresh}
 use Rattle.vv_pool.specs.FreshPlaces.{FreshPlaces, appended}
 use Rattle.vv_pool.specs.Pool.{PoolState, free_places, with_fresh, with_use}
-use Rattle.vv_pool.proofs.PoolLemmas.{taken_more, made_fresh_more}
+use Rattle.vv_pool.proofs.PoolLemmas.{taken_more, made_fresh_more, length-free_from}
 use Rattle.vv_pool.proofs.pool.Pool.take_lowest.Goals as goal
 
 with_fresh_more : (pool : PoolState) (ks : List ℕ) (k : ℕ) → with_use (with_fresh pool ks) k Fresh ≡ with_fresh pool (ks ++ k ∷ [])
@@ -27,3 +27,8 @@ loop-taken-preserved c =
       rest = sym more.1;
       free = omega (arith, c.take_first.ensures.free, c.loop-taken.invariant.free);
     }
+
+pub returns-clause-count : goal.returns-clause-count
+returns-clause-count c =
+    let all = length-free_from 0 c.args.self.now.places in
+    length-take-le c.args.n (free_places c.args.self.now) (omega (arith, c.requires.free))

@@ -1,0 +1,10 @@
+pub mod Times
+pub mod Named
+pub mod Shared
+pub mod Ended
+pub mod Written
+pub mod Added
+pub mod PlaceCounts
+pub mod Started
+pub mod Awaited
+pub mod Owners

@@ -1,0 +1,4 @@
+pub mod Members
+pub mod Sharing
+pub mod Kept
+pub mod OwnedRows

@@ -1,0 +1,10 @@
+//! The volumes of an array and the lists that its tasks hold.
+#![tactic(auto)]
+
+mod laws;
+
+pub use laws::{
+    a_copied_volume_shares, a_deletion_shares, a_dropped_list_shares, a_fresh_place_shares,
+    a_grown_volume_shares, a_held_list_shares, a_made_volume_shares, a_reverted_volume_shares,
+    an_entry_that_stands_shares, an_unmapped_chunk_shares, used_places_are_the_named_and_the_fresh,
+};

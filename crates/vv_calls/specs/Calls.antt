@@ -1,70 +1,154 @@
--- The calls that are served, over the JSON value of a line. Fields that a call doesn't have are ignored.
-use Rattle.std.specs.Prelude.{ℕ, ◌&&◌, ◌==◌, List, length, codes, Bool, true, false, nat_le, if◌then◌else◌, Option, Some, None, is_none}
+-- The calls, over the JSON value of a line: a row for each with its fields, in the order in which they are looked at.
+-- Other fields are ignored. The names are those of VASA 2.0 and this project's own.
+use Rattle.std.specs.Prelude.{ℕ, List, codes, if◌then◌else◌, Result, Ok, Err}
 use Rattle.std.specs.Str.{bytes_eq}
 use Rattle.serde_json.specs.Data.{Data}
-use Rattle.serde_json.specs.Find.{get, as_str}
-use Rattle.vv_units.specs.declared.volume.VvolType.{VvolType}
-use Rattle.vv_units.specs.declared.volume.VvolType.TheVariants as vvol_type
-use Rattle.vv_units.specs.declared.numbers.HostId.{HostId}
-use Rattle.vv_units.specs.declared.numbers.EndpointId.{EndpointId}
-use Rattle.vv_units.specs.declared.numbers.Secondary.{Secondary}
+use Rattle.vv_units.specs.declared.field.Field.TheVariants as field
 use Rattle.vv_calls.specs.declared.call.Call.{Call}
-use Rattle.vv_calls.specs.declared.call.Call.TheVariants.{CreateVirtualVolume, BindVirtualVolume, Scsi}
-use Rattle.vv_calls.specs.Steps.{◌>>=◌}
-use Rattle.vv_calls.specs.Fields.{optional, number_of, host_of, endpoint_of, secondary_of, volume_of, vvol_type_of, cdb_of}
-use Rattle.vv_calls.specs.Payload.{optional_payload}
-use Rattle.vv_calls.specs.Transfers.{transfer_in, data_len}
+use Rattle.vv_calls.specs.declared.call.Call.TheVariants.{CreateStorageContainer, CreateVirtualVolume, DeleteVirtualVolume, ResizeVirtualVolume, SetMetadata, SnapshotVirtualVolume, FastCloneVirtualVolume, RevertVirtualVolume, CloneVirtualVolume, CopyDiffsToVirtualVolume, Turn, GetTaskUpdate, CancelTask, SetPEContext, BindVirtualVolume, UnbindVirtualVolume, UnbindAllVirtualVolumesFromHost, Scsi, Submit, Serve, AllocatedBitmapVirtualVolume, UnsharedBitmapVirtualVolume, UnsharedChunksVirtualVolume, QueryPool, QueryStorageContainer, QueryVirtualVolume, Restart}
+use Rattle.vv_calls.specs.declared.call.LineFault.{LineFault}
+use Rattle.vv_calls.specs.declared.call.LineFault.TheVariants.{UnknownCall}
+use Rattle.vv_calls.specs.Steps.{of_one, of_two, of_three, of_four}
+use Rattle.vv_calls.specs.Fields.{host, endpoint, secondary, endpoints, volume, container, optional_container, task, size_in_mb, quota, optional_number, capabilities, optional_profile, key, optional_value, vvol_type, command, call_name}
 
-abbrev pub is_data : VvolType → Bool
-is_data vvol_type.Data = true
-is_data _ = false
+-- Volumes and containers.
 
--- a Data vvol of 4 MB, in no container of its own and without a profile
-abbrev pub create_of : Data → Option Call
-create_of line = do
-  kind ← get (codes "vvolType") line >>= vvol_type_of
-  size ← get (codes "sizeInMB") line >>= number_of
-  if is_data kind && size == 4 && is_none (optional (codes "container") line) && is_none (optional (codes "profile") line)
-      then Some (CreateVirtualVolume kind size) else None
+abbrev pub create_storage_container : Data → Result Call LineFault
+create_storage_container line = of_two CreateStorageContainer (quota line) (capabilities line)
 
-abbrev pub bind_of : Data → Option Call
-bind_of line = do
-  host ← get (codes "host") line >>= host_of
-  vvol ← get (codes "vvol") line >>= volume_of
-  Some (BindVirtualVolume host vvol)
+abbrev pub create_virtual_volume : Data → Result Call LineFault
+create_virtual_volume line = of_four CreateVirtualVolume (optional_container line) (vvol_type line) (size_in_mb line) (optional_profile line)
 
--- The address of a binding: host, endpoint and secondary. Secondary 0 is the endpoint itself, which isn't served.
-abbrev pub address_of : Data → Option (HostId × EndpointId × Secondary)
-address_of line = do
-  host ← get (codes "host") line >>= host_of
-  endpoint ← get (codes "endpoint") line >>= endpoint_of
-  secondary ← get (codes "secondary") line >>= secondary_of
-  if nat_le 1 secondary.0 then Some (host, endpoint, secondary) else None
+abbrev pub delete_virtual_volume : Data → Result Call LineFault
+delete_virtual_volume line = of_one DeleteVirtualVolume (volume field.Vvol line)
 
-abbrev pub required_cdb : Data → Option (List ℕ)
-required_cdb line = get (codes "cdb") line >>= cdb_of
+abbrev pub resize_virtual_volume : Data → Result Call LineFault
+resize_virtual_volume line = of_two ResizeVirtualVolume (volume field.Vvol line) (size_in_mb line)
 
--- A command for a binding, with a CDB that is served and exactly the bytes that it takes.
-abbrev pub scsi_of : Data → Option Call
-scsi_of line = do
-  address ← address_of line
-  cdb ← required_cdb line
-  transfer ← transfer_in cdb
-  payload ← optional_payload (optional (codes "data") line)
-  if length payload == data_len transfer
-      then Some (Scsi (record { host = address.0; endpoint = address.1; secondary = address.2; cdb = cdb; payload = payload }))
-      else None
+abbrev pub set_metadata : Data → Result Call LineFault
+set_metadata line = of_three SetMetadata (volume field.Vvol line) (key line) (optional_value line)
 
--- the call of a name
-abbrev pub named_call : List ℕ → Data → Option Call
-named_call name line =
-    if bytes_eq name (codes "createVirtualVolume") then create_of line
-    else if bytes_eq name (codes "bindVirtualVolume") then bind_of line
-    else if bytes_eq name (codes "scsi") then scsi_of line
-    else None
+-- Copies and tasks.
 
-abbrev pub call_of : Data → Option Call
-call_of line = do
-  value ← get (codes "call") line
-  name ← as_str value
-  named_call name line
+abbrev pub snapshot_virtual_volume : Data → Result Call LineFault
+snapshot_virtual_volume line = of_one SnapshotVirtualVolume (volume field.Vvol line)
+
+abbrev pub fast_clone_virtual_volume : Data → Result Call LineFault
+fast_clone_virtual_volume line = of_one FastCloneVirtualVolume (volume field.Vvol line)
+
+abbrev pub revert_virtual_volume : Data → Result Call LineFault
+revert_virtual_volume line = of_two RevertVirtualVolume (volume field.Vvol line) (volume field.Snapshot line)
+
+abbrev pub clone_virtual_volume : Data → Result Call LineFault
+clone_virtual_volume line = of_one CloneVirtualVolume (volume field.Vvol line)
+
+abbrev pub copy_diffs_to_virtual_volume : Data → Result Call LineFault
+copy_diffs_to_virtual_volume line = of_three CopyDiffsToVirtualVolume (volume field.Source line) (volume field.Base line) (volume field.Target line)
+
+abbrev pub turn : Data → Result Call LineFault
+turn line = of_one Turn (task line)
+
+abbrev pub get_task_update : Data → Result Call LineFault
+get_task_update line = of_one GetTaskUpdate (task line)
+
+abbrev pub cancel_task : Data → Result Call LineFault
+cancel_task line = of_one CancelTask (task line)
+
+-- Hosts, their bindings and their commands.
+
+abbrev pub set_pe_context : Data → Result Call LineFault
+set_pe_context line = of_two SetPEContext (host line) (endpoints line)
+
+abbrev pub bind_virtual_volume : Data → Result Call LineFault
+bind_virtual_volume line = of_two BindVirtualVolume (host line) (volume field.Vvol line)
+
+abbrev pub unbind_virtual_volume : Data → Result Call LineFault
+unbind_virtual_volume line = of_three UnbindVirtualVolume (host line) (endpoint line) (secondary line)
+
+abbrev pub unbind_all_virtual_volumes_from_host : Data → Result Call LineFault
+unbind_all_virtual_volumes_from_host line = of_one UnbindAllVirtualVolumesFromHost (host line)
+
+abbrev pub scsi : Data → Result Call LineFault
+scsi line = of_one Scsi (command line)
+
+abbrev pub submit : Data → Result Call LineFault
+submit line = of_one Submit (command line)
+
+abbrev pub serve : Data → Result Call LineFault
+serve line = of_one Serve (host line)
+
+-- Queries, and the restart.
+
+abbrev pub allocated_bitmap_virtual_volume : Data → Result Call LineFault
+allocated_bitmap_virtual_volume line = of_three AllocatedBitmapVirtualVolume (volume field.Vvol line) (optional_number field.First line) (optional_number field.Count line)
+
+abbrev pub unshared_bitmap_virtual_volume : Data → Result Call LineFault
+unshared_bitmap_virtual_volume line = of_four UnsharedBitmapVirtualVolume (volume field.Vvol line) (volume field.Base line) (optional_number field.First line) (optional_number field.Count line)
+
+abbrev pub unshared_chunks_virtual_volume : Data → Result Call LineFault
+unshared_chunks_virtual_volume line = of_two UnsharedChunksVirtualVolume (volume field.Vvol line) (volume field.Base line)
+
+abbrev pub query_pool : Data → Result Call LineFault
+query_pool line = Ok QueryPool
+
+abbrev pub query_storage_container : Data → Result Call LineFault
+query_storage_container line = of_one QueryStorageContainer (container line)
+
+abbrev pub query_virtual_volume : Data → Result Call LineFault
+query_virtual_volume line = of_one QueryVirtualVolume (volume field.Vvol line)
+
+abbrev pub restart : Data → Result Call LineFault
+restart line = Ok Restart
+
+-- The calls by their names. A name that is none of these is answered so.
+
+abbrev pub query_call : List ℕ → Data → Result Call LineFault
+query_call name line =
+    if bytes_eq name (codes "allocatedBitmapVirtualVolume") then allocated_bitmap_virtual_volume line
+    else if bytes_eq name (codes "unsharedBitmapVirtualVolume") then unshared_bitmap_virtual_volume line
+    else if bytes_eq name (codes "unsharedChunksVirtualVolume") then unshared_chunks_virtual_volume line
+    else if bytes_eq name (codes "queryPool") then query_pool line
+    else if bytes_eq name (codes "queryStorageContainer") then query_storage_container line
+    else if bytes_eq name (codes "queryVirtualVolume") then query_virtual_volume line
+    else if bytes_eq name (codes "restart") then restart line
+    else Err UnknownCall
+
+abbrev pub host_call : List ℕ → Data → Result Call LineFault
+host_call name line =
+    if bytes_eq name (codes "setPEContext") then set_pe_context line
+    else if bytes_eq name (codes "bindVirtualVolume") then bind_virtual_volume line
+    else if bytes_eq name (codes "unbindVirtualVolume") then unbind_virtual_volume line
+    else if bytes_eq name (codes "unbindAllVirtualVolumesFromHost") then unbind_all_virtual_volumes_from_host line
+    else if bytes_eq name (codes "scsi") then scsi line
+    else if bytes_eq name (codes "submit") then submit line
+    else if bytes_eq name (codes "serve") then serve line
+    else query_call name line
+
+abbrev pub copy_call : List ℕ → Data → Result Call LineFault
+copy_call name line =
+    if bytes_eq name (codes "snapshotVirtualVolume") then snapshot_virtual_volume line
+    else if bytes_eq name (codes "fastCloneVirtualVolume") then fast_clone_virtual_volume line
+    else if bytes_eq name (codes "revertVirtualVolume") then revert_virtual_volume line
+    else if bytes_eq name (codes "cloneVirtualVolume") then clone_virtual_volume line
+    else if bytes_eq name (codes "copyDiffsToVirtualVolume") then copy_diffs_to_virtual_volume line
+    else if bytes_eq name (codes "turn") then turn line
+    else if bytes_eq name (codes "getTaskUpdate") then get_task_update line
+    else if bytes_eq name (codes "cancelTask") then cancel_task line
+    else host_call name line
+
+abbrev pub volume_call : List ℕ → Data → Result Call LineFault
+volume_call name line =
+    if bytes_eq name (codes "createStorageContainer") then create_storage_container line
+    else if bytes_eq name (codes "createVirtualVolume") then create_virtual_volume line
+    else if bytes_eq name (codes "deleteVirtualVolume") then delete_virtual_volume line
+    else if bytes_eq name (codes "resizeVirtualVolume") then resize_virtual_volume line
+    else if bytes_eq name (codes "setMetadata") then set_metadata line
+    else copy_call name line
+
+abbrev pub named_call : Result (List ℕ) LineFault → Data → Result Call LineFault
+named_call (Ok name) line = volume_call name line
+named_call (Err e) line = Err e
+
+-- the call that a value asks for
+abbrev pub call_of : Data → Result Call LineFault
+call_of line = named_call (call_name line) line

@@ -1,8 +1,9 @@
 pub mod Steps
-pub mod Transfers
 pub mod Hexadecimal
-pub mod Fields
+pub mod Forms
 pub mod Payload
+pub mod Lists
+pub mod Fields
 pub mod Calls
+pub mod Formed
 pub mod Lines
-pub mod Served

@@ -6,7 +6,7 @@ use Rattle.serde_json.specs.Data.{Data, Items, no_items, item}
 use Rattle.serde_json.specs.Find.{as_array, as_str}
 use Rattle.vv_calls.specs.Steps.{◌>>=◌}
 use Rattle.vv_calls.specs.Hexadecimal.{hex_bytes}
-use Rattle.vv_calls.specs.Fields.{number_within}
+use Rattle.vv_calls.specs.Forms.{number_within}
 
 -- the most bytes of one line
 abbrev pub payload_limit : ℕ

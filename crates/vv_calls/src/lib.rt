@@ -2,14 +2,18 @@
 #![tactic(auto)]
 
 mod call;
+mod copies;
 mod fields;
+mod forms;
 mod hexadecimal;
+mod hosts;
 mod line;
+mod lists;
 mod payload;
+mod queries;
 #[cfg(test)]
 mod tests;
-mod transfer;
+mod volumes;
 
-pub use call::{Call, LineFault, ScsiCall};
-pub use line::{calls_that_are_read, read_line};
-pub use transfer::{Transfer, transfer_of};
+pub use call::{Call, EndpointList, LineFault, ScsiCall};
+pub use line::{LINE_LIMIT, read_line};

@@ -1,11 +1,11 @@
 //! The bytes that a line carries.
-ghost use Rattle.std.specs.Prelude.{◌≡◌, ◌++◌, ◌≤◌, [], IfOk, OnOk, option_map, replicate, vec_len, if◌then◌else◌};
+ghost use Rattle.std.specs.Prelude.{◌≡◌, ◌++◌, ◌≤◌, [], IfOk, IfSome, OnOk, option_map, replicate, vec_len, if◌then◌else◌};
 ghost use Rattle.std.specs.List.{concat};
 ghost use Rattle.serde_json.specs.Data.{Items, item};
 ghost use Rattle.serde_json.specs.View.{view, items_view};
-ghost use Rattle.vv_calls.specs.Payload.{pair_in, pair_of, joined_onto, payload_of, optional_payload};
+ghost use Rattle.vv_calls.specs.Payload.{payload_limit, pair_in, pair_of, joined_onto, payload_of, optional_payload};
 
-use crate::fields::number_within;
+use crate::forms::number_within;
 use crate::hexadecimal::hex_bytes;
 use serde_json::Value;
 use std::alloc::Global;
@@ -19,8 +19,9 @@ pub(crate) fn optional_payload(
     alloc: Global,
     field: Option<&Value>,
 ) -> Result<Option<Vec<u8>>, NoMemory>
-    ensures { IfOk result (λ bytes. option_map (λ v. v.items) bytes
+    ensures bytes { IfOk result (λ bytes. option_map (λ v. v.items) bytes
         ≡ optional_payload (option_map (λ v. view v.now) field.entry)) }
+    ensures few { IfOk result (λ bytes. IfSome bytes (λ v. vec_len v ≤ payload_limit)) }
 {
     match field {
         None => Ok(Some(Vec::new(alloc))),
@@ -30,7 +31,8 @@ pub(crate) fn optional_payload(
 
 /// The bytes of a list of pairs.
 fn payload(alloc: Global, value: &Value) -> Result<Option<Vec<u8>>, NoMemory>
-    ensures { IfOk result (λ bytes. option_map (λ v. v.items) bytes ≡ payload_of (view value.now)) }
+    ensures bytes { IfOk result (λ bytes. option_map (λ v. v.items) bytes ≡ payload_of (view value.now)) }
+    ensures few { IfOk result (λ bytes. IfSome bytes (λ v. vec_len v ≤ payload_limit)) }
 {
     match value.as_array() {
         Some(pairs) => joined(alloc, pairs.as_slice()),
@@ -40,8 +42,9 @@ fn payload(alloc: Global, value: &Value) -> Result<Option<Vec<u8>>, NoMemory>
 
 /// The bytes of the pairs, one after another, if each is well formed and they are not too many.
 fn joined(alloc: Global, pairs: &[Value]) -> Result<Option<Vec<u8>>, NoMemory>
-    ensures { IfOk result (λ bytes. option_map (λ v. v.items) bytes
+    ensures bytes { IfOk result (λ bytes. option_map (λ v. v.items) bytes
         ≡ joined_onto [] (items_view pairs.now)) }
+    ensures few { IfOk result (λ bytes. IfSome bytes (λ v. vec_len v ≤ payload_limit)) }
 {
     let mut payload = Vec::new(alloc);
     for pair in pairs {

@@ -1,4 +1,6 @@
-//! Sources and sinks over std's readers and writers. Bytes are told where std tells them.
+//! Sources and sinks over std's readers and writers. Bytes are told where std tells them. No clause can say when a
+//! reader or a writer of std fails, so a body of `read` or `write` here could give up by itself and count that as
+//! a fault, or ask again after one and count only its own. Tests look at it.
 ghost use Rattle.std.specs.Prelude.{◌≡◌};
 
 use crate::{Sink, Source};

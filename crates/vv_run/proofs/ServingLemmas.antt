@@ -5,7 +5,7 @@ use Rattle.std.proofs.lemmas.List.Elements.{filter-append}
 use Rattle.std.proofs.lemmas.List.{take-append-drop, take-append-le, drop_at}
 use Rattle.std.specs.Prelude.{Option, OnOk, OnErr, IfSome, ◌==◌}
 use Rattle.std.specs.List.{flat_map}
-use Rattle.std.specs.Io.KnownBytes.{Appends, Consumes}
+use Rattle.std.specs.Io.KnownBytes.{Appends, Consumes, IsAtEnd}
 use Rattle.vv_run.specs.Lines.{pieces, ended_pieces, onto_first, onto_ended, has_text, lines_of, ended_lines_of}
 use Rattle.vv_run.specs.Replies.{text_of}
 use Rattle.vv_run.specs.State.{State, empty_array}
@@ -182,6 +182,16 @@ cut_past (Some told) (Some rest) script front limit before after consumed is cut
     cut_front front (drop limit script ++ rest) told before after
     (consumed ∙ ap (λ (front : List ℕ). front ++ rest) (sym (take-append-drop limit script)) ∙ append_assoc (take limit script) (drop limit script) rest
     ∙ ap (λ (front : List ℕ). front ++ (drop limit script ++ rest)) (sym is)) cut
+
+-- and where the source gave its end
+pub cut_at_end : (old new : Option (List ℕ)) (script : List ℕ) (before after : Option (List ℕ)) → Consumes old new script → IsAtEnd new
+    → CutShort (lines_of script) before after → IfSome old (λ told. CutShort (lines_of told) before after)
+cut_at_end None new script before after consumed end cut = tt
+cut_at_end (Some told) None script before after consumed end cut = absurd consumed
+cut_at_end (Some told) (Some rest) script before after consumed end cut =
+    let same : script ≡ told = sym (consumed ∙ ap (λ (back : List ℕ). script ++ back) end ∙ append-nil script) in
+    let P : List ℕ → Type 0 = λ bytes. CutShort (lines_of bytes) before after in
+    subst P same cut
 
 pub answered_past : (old new : Option (List ℕ)) (script front : List ℕ) (limit : ℕ) (before after : Option (List ℕ)) → Consumes old new script
     → front ≡ take limit script → limit < length script → Answered (ended_lines_of front) before after

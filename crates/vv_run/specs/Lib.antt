@@ -4,6 +4,7 @@ pub mod Replies
 pub mod Writing
 pub mod Reading
 pub mod Status
+pub mod Transfers
 pub mod State
 pub mod Steps
 pub mod Runs

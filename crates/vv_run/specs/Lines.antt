@@ -1,6 +1,7 @@
 -- The lines of a script. A line ends by LF, and the last may lack it. Blank lines are no lines.
-use Rattle.std.specs.Prelude.{ℕ, ◌==◌, ◌||◌, List, [], ◌∷◌, Bool, not, filter, if◌then◌else◌}
+use Rattle.std.specs.Prelude.{ℕ, ◌==◌, ◌||◌, List, [], ◌∷◌, length, nat_lt, Bool, not, filter, if◌then◌else◌}
 use Rattle.std.specs.List.{list_any}
+use Rattle.vv_calls.specs.Lines.{line_limit}
 
 abbrev pub line_feed : ℕ
 line_feed = 10
@@ -29,8 +30,13 @@ ended_pieces (c ∷ bytes) = if c == line_feed then [] ∷ ended_pieces bytes el
 abbrev pub is_blank : ℕ → Bool
 is_blank c = (c == 32) || (c == 9) || (c == 13)
 
-abbrev pub has_text : List ℕ → Bool
-has_text line = list_any (λ c. not (is_blank c)) line
+-- more than blanks
+abbrev pub has_more : List ℕ → Bool
+has_more line = list_any (λ c. not (is_blank c)) line
+
+-- A line that is passed over has only blanks, or nothing, and isn't too long.
+unfoldable pub has_text : List ℕ → Bool
+has_text line = nat_lt line_limit (length line) || has_more line
 
 -- the lines of a script that was read to its end
 abbrev pub lines_of : List ℕ → List (List ℕ)

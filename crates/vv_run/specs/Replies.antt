@@ -1,8 +1,9 @@
 -- The replies that are given now, and their texts: compact JSON with keys in the order of their bytes, and LF.
 use Rattle.std.specs.Prelude.{ℕ, ◌+◌, ◌/◌, ◌%◌, ◌==◌, List, [], ◌∷◌, ◌++◌, codes, decimal, if◌then◌else◌, nat_lt, ◌<◌, ⊤}
 use Rattle.vv_units.specs.Identifiers.{identifier_limit, identifier_text}
+use Rattle.vv_units.specs.Names.{field_text}
 use Rattle.vv_run.specs.declared.reply.Reply.{Reply}
-use Rattle.vv_run.specs.declared.reply.Reply.TheVariants.{Vvol, Bound, Good, UnknownVvol, Unbound, NotJson, UnknownCall, NoMemory}
+use Rattle.vv_run.specs.declared.reply.Reply.TheVariants.{Vvol, Bound, Good, UnknownVvol, Unbound, NotJson, UnknownCall, MissingField, BadField, LineTooLong, NoMemory}
 
 -- b goes onto the front of runs of equal bytes
 abbrev pub onto_run : ℕ → List (ℕ × ℕ) → List (ℕ × ℕ)
@@ -42,6 +43,9 @@ object_text UnknownVvol = codes "{\"fault\":\"NotFound\",\"name\":\"vvol\",\"ok\
 object_text Unbound = codes "{\"ok\":false,\"sense\":\"700005000000000a00000000250000000000\",\"status\":\"02\"}"
 object_text NotJson = codes "{\"fault\":\"NotJson\",\"ok\":false}"
 object_text UnknownCall = codes "{\"fault\":\"UnknownCall\",\"ok\":false}"
+object_text (MissingField name) = codes "{\"fault\":\"MissingField\",\"name\":\"" ++ field_text name ++ codes "\",\"ok\":false}"
+object_text (BadField name) = codes "{\"fault\":\"BadField\",\"name\":\"" ++ field_text name ++ codes "\",\"ok\":false}"
+object_text LineTooLong = codes "{\"fault\":\"LineTooLong\",\"ok\":false}"
 object_text NoMemory = codes "{\"fault\":\"NoMemory\",\"ok\":false}"
 
 abbrev pub text_of : Reply → List ℕ

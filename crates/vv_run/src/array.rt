@@ -1,19 +1,20 @@
 //! The array as it is served now: one volume as a flat list of bytes, and one binding of it.
-ghost use Rattle.std.specs.Prelude.{◌≡◌, ◌+◌, ◌*◌, ◌<◌, ◌≤◌, IfOk, OnOk, OnErr, IfSome, Ok, Some, None, length, string_bytes, replicate};
+ghost use Rattle.std.specs.Prelude.{◌≡◌, ◌+◌, ◌*◌, ◌<◌, ◌≤◌, IsTrue, IfOk, OnOk, OnErr, IfSome, Ok, Some, None, length, string_bytes, replicate};
 ghost use Rattle.std.specs.Option.{option_map};
 ghost use Rattle.vv_units.specs.Sizes.{block_bytes};
 ghost use Rattle.vv_calls.specs.Lines.{line_reading};
-ghost use Rattle.vv_calls.specs.Served.{IsServed, IsCommand};
-ghost use Rattle.vv_calls.specs.Transfers.{transfer_in};
+ghost use Rattle.vv_calls.specs.Formed.{IsFormed, IsCommand};
+ghost use Rattle.vv_run.specs.Transfers.{transfer_in};
 ghost use Rattle.vv_run.specs.State.{empty_array, volume_bytes, blank_volume, read_blocks, write_blocks};
 ghost use Rattle.vv_run.specs.Replies.{text_of, HasIdentifier};
-ghost use Rattle.vv_run.specs.Steps.{answer, created, bound_volume, commanded, is_for};
+ghost use Rattle.vv_run.specs.Steps.{answer, served, created, bound_volume, commanded, is_for, is_data, is_served_command, takes_payload};
 
 use crate::Reply;
+use crate::transfer::{Transfer, transfer_of};
 use std::alloc::{AllocError, Global};
 use std::marker::Model;
-use vv_calls::{Call, LineFault, ScsiCall, Transfer, read_line, transfer_of};
-use vv_units::{ByteList, EndpointId, HostId, NoMemory, Secondary, VolumeId};
+use vv_calls::{Call, LineFault, ScsiCall, read_line};
+use vv_units::{ByteList, EndpointId, HostId, NoMemory, Secondary, VolumeId, VvolType};
 
 const VOLUME_BYTES: usize = 8192 * BLOCK_BYTES;
 
@@ -65,12 +66,32 @@ impl FlatArray {
         ensures err { OnErr result (self.new ≡ self.old) }
     {
         match read_line(alloc, line) {
-            Ok(Call::CreateVirtualVolume { .. }) => self.create(alloc),
-            Ok(Call::BindVirtualVolume { host, vvol }) => self.bind(alloc, host, vvol),
-            Ok(Call::Scsi(command)) => self.command(alloc, &command),
+            Ok(call) => self.serve(alloc, &call),
             Err(LineFault::NotJson) => text(alloc, Reply::NotJson),
             Err(LineFault::UnknownCall) => text(alloc, Reply::UnknownCall),
+            Err(LineFault::MissingField { name }) => text(alloc, Reply::MissingField(name)),
+            Err(LineFault::BadField { name }) => text(alloc, Reply::BadField(name)),
+            Err(LineFault::LineTooLong) => text(alloc, Reply::LineTooLong),
             Err(LineFault::NoMemory) => Err(NoMemory),
+        }
+    }
+
+    fn serve(&mut self, alloc: Global, call: &Call) -> Result<String, NoMemory>
+        requires { IsFormed call.now }
+        ensures text { IfOk result (λ text. string_bytes text ≡ text_of (served self.old call.now).0) }
+        ensures after { OnOk result (self.new ≡ (served self.old call.now).1) }
+        ensures err { OnErr result (self.new ≡ self.old) }
+    {
+        match call {
+            Call::CreateVirtualVolume {
+                container: None,
+                vvol_type,
+                size_in_mb: 4,
+                profile: None,
+            } if is_data(*vvol_type) => self.create(alloc),
+            Call::BindVirtualVolume { host, vvol } => self.bind(alloc, *host, *vvol),
+            Call::Scsi(command) if is_served_command(command) => self.command(alloc, command),
+            _ => text(alloc, Reply::UnknownCall),
         }
     }
 
@@ -105,7 +126,8 @@ impl FlatArray {
     }
 
     fn command(&mut self, alloc: Global, command: &ScsiCall) -> Result<String, NoMemory>
-        requires { IsCommand command.now }
+        requires formed { IsCommand command.now }
+        requires served { IsTrue (is_served_command command.now) }
         ensures text { IfOk result (λ text. string_bytes text ≡ text_of (commanded self.old command.now self.old.volume self.old.bound).0) }
         ensures after { OnOk result (self.new ≡ (commanded self.old command.now self.old.volume self.old.bound).1) }
         ensures err { OnErr result (self.new ≡ self.old) }
@@ -157,6 +179,28 @@ fn text(alloc: Global, reply: Reply) -> Result<String, NoMemory>
     ensures { IfOk result (λ text. string_bytes text ≡ text_of reply) }
 {
     reply.text(alloc).map_err(|_| NoMemory)
+}
+
+fn is_data(vvol_type: VvolType) -> bool
+    ensures { result ≡ is_data vvol_type }
+{
+    matches!(vvol_type, VvolType::Data)
+}
+
+/// Whether a command comes to a binding, with a CDB that is served and exactly the bytes that it takes.
+fn is_served_command(command: &ScsiCall) -> bool
+    ensures { result ≡ is_served_command command.now }
+{
+    command.secondary.0 >= 1 && takes_payload(command)
+}
+
+fn takes_payload(command: &ScsiCall) -> bool
+    ensures { result ≡ takes_payload command.now.payload (transfer_in command.now.cdb) }
+{
+    match transfer_of(command.cdb.items()) {
+        Some(transfer) => command.payload.items().len() as u64 == transfer.data_len(),
+        None => false,
+    }
 }
 
 fn is_for(host: HostId, command: &ScsiCall) -> bool

@@ -9,6 +9,7 @@ mod script;
 mod serving;
 mod status;
 mod top_call;
+mod transfer;
 mod words;
 mod writing;
 

@@ -1,7 +1,10 @@
 //! The lines of a script.
-ghost use Rattle.std.specs.Prelude.{◌≡◌, ◌<◌, ◌==◌, ◌∷◌, not, length};
+ghost use Rattle.std.specs.Prelude.{◌≡◌, ◌<◌, ◌==◌, ◌∷◌, not, length, nat_lt};
 ghost use Rattle.std.specs.List.{prefix_len};
-ghost use Rattle.vv_run.specs.Lines.{pieces, ended_pieces, has_text};
+ghost use Rattle.vv_run.specs.Lines.{pieces, ended_pieces, has_text, has_more};
+ghost use Rattle.vv_calls.specs.Lines.{line_limit};
+
+use vv_calls::LINE_LIMIT;
 
 const LINE_FEED: u8 = b'\n';
 
@@ -39,9 +42,22 @@ pub fn whole_lines(bytes: &[u8]) -> &[u8]
     front
 }
 
-/// Whether a line has more than blanks.
+/// Whether a line has more than blanks, or is too long for one that is passed over.
+#[tactic(auto, unfolding(crate::specs::Lines::has_text))]
 pub fn has_text(line: &[u8]) -> bool
     ensures { result ≡ has_text line.now }
+{
+    is_too_long(line) || has_more(line)
+}
+
+fn is_too_long(line: &[u8]) -> bool
+    ensures { result ≡ nat_lt line_limit (length line.now) }
+{
+    line.len() > LINE_LIMIT
+}
+
+fn has_more(line: &[u8]) -> bool
+    ensures { result ≡ has_more line.now }
 {
     line.iter().any(|b| !matches!(*b, b' ' | b'\t' | b'\r'))
 }

@@ -1,11 +1,12 @@
 //! Replies and their texts.
 ghost use Rattle.std.specs.Prelude.{◌≡◌, ◌<◌, ◌++◌, IfOk, OnOk, string_bytes, codes, decimal};
 ghost use Rattle.vv_units.specs.Identifiers.{identifier_limit, identifier_text};
+ghost use Rattle.vv_units.specs.Names.{field_text as name_of};
 ghost use Rattle.vv_run.specs.Replies.{text_of, HasIdentifier, runs_text, runs_of};
 
 use crate::runs::push_runs;
 use std::alloc::{AllocError, Global};
-use vv_units::{ByteList, EndpointId, Secondary, VolumeId, id_text};
+use vv_units::{ByteList, EndpointId, Field, Secondary, VolumeId, id_text};
 
 /// The reply to a line.
 #[derive(Debug, Drop)]
@@ -24,6 +25,12 @@ pub enum Reply {
     NotJson,
     /// The line has no form that is served.
     UnknownCall,
+    /// The line lacks this field.
+    MissingField(Field),
+    /// The field isn't of its form.
+    BadField(Field),
+    /// The line is longer than a line may be.
+    LineTooLong,
     /// There was no memory, and the line changed nothing.
     NoMemory,
 }
@@ -55,9 +62,32 @@ impl Reply {
             Reply::UnknownCall => {
                 String::from_str(alloc, "{\"fault\":\"UnknownCall\",\"ok\":false}\n")
             }
+            Reply::MissingField(name) => field_text(
+                alloc,
+                "{\"fault\":\"MissingField\",\"name\":\"",
+                *name,
+            ),
+            Reply::BadField(name) => field_text(
+                alloc,
+                "{\"fault\":\"BadField\",\"name\":\"",
+                *name,
+            ),
+            Reply::LineTooLong => String::from_str(
+                alloc,
+                "{\"fault\":\"LineTooLong\",\"ok\":false}\n",
+            ),
             Reply::NoMemory => String::from_str(alloc, NO_MEMORY),
         }
     }
+}
+
+fn field_text(alloc: Global, fault: &str, name: Field) -> Result<String, AllocError>
+    ensures { IfOk result (λ text. string_bytes text ≡ fault.now ++ name_of name ++ codes "\",\"ok\":false}\n") }
+{
+    let mut text = String::from_str(alloc, fault)?;
+    text.push_str(name.text())?;
+    text.push_str("\",\"ok\":false}\n")?;
+    Ok(text)
 }
 
 fn vvol_text(alloc: Global, vvol: VolumeId) -> Result<String, AllocError>

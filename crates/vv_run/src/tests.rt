@@ -39,6 +39,18 @@ const NOT_JSON: &str = "{\"fault\":\"NotJson\",\"ok\":false}\n";
 
 const UNKNOWN: &str = "{\"fault\":\"UnknownCall\",\"ok\":false}\n";
 
+const NO_CALL: &str = "{\"fault\":\"MissingField\",\"name\":\"call\",\"ok\":false}\n";
+
+const SMALL: &str = "{\"call\":\"createVirtualVolume\",\"sizeInMB\":4.5,\"vvolType\":\"Data\"}";
+
+const BAD_SIZE: &str = "{\"fault\":\"BadField\",\"name\":\"sizeInMB\",\"ok\":false}\n";
+
+const SWAP: &str = "{\"call\":\"createVirtualVolume\",\"sizeInMB\":4,\"vvolType\":\"Swap\"}";
+
+const SIZELESS: &str = "{\"call\":\"createVirtualVolume\",\"vvolType\":\"Data\"}";
+
+const NO_SIZE: &str = "{\"fault\":\"MissingField\",\"name\":\"sizeInMB\",\"ok\":false}\n";
+
 const NOT_FOUND: &str = "{\"fault\":\"NotFound\",\"name\":\"vvol\",\"ok\":false}\n";
 
 const WORDS: &str = "new d.img 16 2048 256";
@@ -133,8 +145,10 @@ fn other_lines_are_refused(rt: HostRuntime) -> Result<(), Fail> {
     assert!(rt; answers(alloc, &lines, &replies)?);
     let lines = [CREATE, "\n", BIND, "\n", BIND, "\n"];
     assert!(rt; answers(alloc, &lines, &[CREATED, BOUND, UNKNOWN])?);
-    let lines = ["{\"call\":\"queryPool\"\n{\"call\":\"fly\"}\n[]"];
-    assert!(rt; answers(alloc, &lines, &[NOT_JSON, UNKNOWN, UNKNOWN])?);
+    let lines = ["{\"call\":\"queryPool\"\n{\"call\":\"fly\"}\n{\"call\":\"queryPool\"}\n[]"];
+    assert!(rt; answers(alloc, &lines, &[NOT_JSON, UNKNOWN, UNKNOWN, NO_CALL])?);
+    let lines = [SMALL, "\n", SWAP, "\n", SIZELESS];
+    assert!(rt; answers(alloc, &lines, &[BAD_SIZE, UNKNOWN, NO_SIZE])?);
     Ok(())
 }
 

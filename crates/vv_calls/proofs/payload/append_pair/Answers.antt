@@ -29,7 +29,7 @@ returns-clause-limited c =
     let digits = c.in-Some.digits.now in
     let bytes = c.in-Some-2.bytes.items in
     let times = c.in-Some.times in
-    let spelled : Some bytes ≡ hex_bytes digits = rw c.in-Some-2.is at c.in_ok-bytes.ensures in
+    let spelled : Some bytes ≡ hex_bytes digits = rw c.in-Some-2.is at c.in_ok-bytes.ensures.spelled in
     let half = length-hex_bytes digits bytes (sym spelled) in
     let product : c.saturating_mul.result ≡ length digits / 2 * times = omega (arith, c.saturating_mul.ensures) in
     let room = within_room payload_limit (length front) (length digits) times (length bytes) c.saturating_mul.result half product (omega (arith, c.args.payload.now.ok.0)) (omega (arith, c.args.payload.now.ok.0)) in
@@ -46,7 +46,7 @@ returns-clause-bytes c =
     let digits = c.in-Some.digits.now in
     let bytes = c.in-Some-2.bytes.items in
     let times = c.in-Some.times in
-    let spelled : Some bytes ≡ hex_bytes digits = rw c.in-Some-2.is at c.in_ok-bytes.ensures in
+    let spelled : Some bytes ≡ hex_bytes digits = rw c.in-Some-2.is at c.in_ok-bytes.ensures.spelled in
     let some : 0 < length digits = let other = eqb-false (length digits) 0 (sym c.if-is_empty.ensures) in omega arith in
     let here = good_pair pair digits times bytes (sym c.in-Some.ensures) some (sym spelled) in
     let items : c.append_repeated.new.payload.items ≡ front ++ concat (replicate times bytes) = rw c.as_slice.ensures.value at c.in_ok-append_repeated.ensures in

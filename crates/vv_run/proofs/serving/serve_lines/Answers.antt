@@ -1,4 +1,4 @@
-use Rattle.std.proofs.Common.{arith, sym, ◌∙◌, filter}
+use Rattle.std.proofs.Common.{sym, ◌∙◌, filter}
 use Rattle.vv_run.specs.Lines.{pieces, has_text}
 use Rattle.vv_run.specs.Runs.{CutShort}
 use Rattle.vv_run.proofs.ServingLemmas.{progress_line, progress_cut, on_err}
@@ -19,5 +19,5 @@ loop-rest-preserved-in_ok-serve_line g c =
       progress = progress_line c.args.script.now c.loop-rest.rest.now c.next_line.result.0.now c.next_line.result.1.now
           (sink.taken c.args.sink.now) (sink.taken c.loop-rest.sink) (sink.taken c.serve_line.new.sink) c.loop-rest.array c.serve_line.new.array
           c.next_line.ensures.line (sym c.has_text.ensures ∙ c.if-has_text.true) c.loop-rest.invariant.progress c.in_ok-serve_line.ensures.ok;
-      later = omega (arith, c.loop-rest.invariant.later, c.serve_line.ensures.cause.later);
+      kept = c.in_ok-serve_line.ensures.cause.kept ∙ c.loop-rest.invariant.kept;
     }

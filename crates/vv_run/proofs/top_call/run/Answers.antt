@@ -2,8 +2,8 @@ use Rattle.std.proofs.Common.{◌≡◌, List, ℕ, arith, refl, sym, ap, take, 
 use Rattle.vv_run.specs.Lines.{pieces, ended_pieces, has_text}
 use Rattle.vv_run.specs.Reading.{script_limit}
 use Rattle.vv_run.specs.Runs.{CutShort, Answered}
-use Rattle.vv_run.specs.declared.status.Status.TheVariants.{SourceFault, SinkFault, TooMuch}
-use Rattle.vv_run.proofs.ServingLemmas.{cut_at_fault, cut_past, answered_past, one_past, not_within, unless_ok, unless_err}
+use Rattle.vv_run.specs.declared.status.Status.TheVariants.{Done, SourceFault, SinkFault, TooMuch}
+use Rattle.vv_run.proofs.ServingLemmas.{cut_at_fault, cut_at_end, cut_past, answered_past, one_past, not_within, unless_ok, unless_err}
 use Rattle.vv_run.proofs.top_call.run.Goals as goal
 
 pub returns-in-Fault-clause-before_sink_fault : goal.returns-in-Fault-clause-before_sink_fault
@@ -49,3 +49,13 @@ returns-in-TooMuch-clause-past_the_limit g c = λ is.
     let source = g.S.Source in
     one_past (source.left c.args.source.now) (source.left c.read_script-ending.new.source) c.read_script-ending.new.script.items script_limit
     (c.in-TooMuch.ensures.taken_past refl) (omega (arith, c.in-TooMuch.ensures.past refl))
+
+pub returns-in-End-clause-before_sink_fault : goal.returns-in-End-clause-before_sink_fault
+returns-in-End-clause-before_sink_fault g c = λ is.
+    let source = g.S.Source in
+    let sink = g.K.Sink in
+    let P : List (List ℕ) → Type 0 = λ lines. CutShort lines (sink.taken c.args.sink.now) (sink.taken c.serve_lines.new.sink) in
+    cut_at_end (source.left c.args.source.now) (source.left c.read_script-ending.new.source) c.read_script-ending.new.script.items
+    (sink.taken c.args.sink.now) (sink.taken c.serve_lines.new.sink) (c.in-End.ensures.taken_at_end refl) (c.in-End.ensures.end refl)
+    (subst P (ap (λ (bytes : List ℕ). filter has_text (pieces bytes)) c.deref.ensures.value)
+    (unless_ok c.serve_lines.result c.status_of.result Done SinkFault _ c.status_of.ensures.ok (λ same. cc) is c.serve_lines.ensures.err))

@@ -1,4 +1,4 @@
-use Rattle.std.proofs.Common.{◌≤◌, length}
+use Rattle.std.proofs.Common.{◌≡◌, length}
 use Rattle.vv_run.proofs.StreamLemmas.{Wrote}
 use Rattle.vv_run.proofs.writing.write_all.Given as goal
 
@@ -7,7 +7,7 @@ invariant-loop-rest g l =
     let sink = g.K.Sink in
     record {
       written : Wrote (sink.taken l.fn.sink) (sink.taken l.sink) l.bytes l.rest;
-      later : sink.faults l.fn.sink ≤ sink.faults l.sink;
+      kept : sink.faults l.sink ≡ sink.faults l.fn.sink;
     }
 
 abbrev pub decreases-loop-rest : goal.decreases-loop-rest

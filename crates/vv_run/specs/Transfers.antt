@@ -3,8 +3,8 @@
 -- address, and bytes 7 to 8 the number of blocks. Other bits are ignored.
 use Rattle.std.specs.Prelude.{ℕ, ◌≤◌, ◌+◌, ◌*◌, ◌/◌, ◌==◌, ◌&&◌, List, length, slice_index, slice_range, Bool, nat_le, if◌then◌else◌, Option, Some, None}
 use Rattle.std.specs.Int.{w16, w32, from_be_bytes}
-use Rattle.vv_calls.specs.declared.transfer.Transfer.{Transfer}
-use Rattle.vv_calls.specs.declared.transfer.Transfer.TheVariants.{Read, Write}
+use Rattle.vv_run.specs.declared.transfer.Transfer.{Transfer}
+use Rattle.vv_run.specs.declared.transfer.Transfer.TheVariants.{Read, Write}
 
 -- the logical block address
 abbrev pub lba_in : List ℕ → ℕ

@@ -1,6 +1,6 @@
 //! The commands that read and write blocks.
 ghost use Rattle.std.specs.Prelude.{◌≡◌, IfSome};
-ghost use Rattle.vv_calls.specs.Transfers.{transfer_in, IsInside, is_in_range as in_range};
+ghost use Rattle.vv_run.specs.Transfers.{transfer_in, IsInside, is_in_range as in_range};
 
 /// Blocks that are read or written.
 #[derive(Clone, Copy, Debug, PartialEq, Eq)]
@@ -55,7 +55,7 @@ fn is_in_range(lba: u32, blocks: u32) -> bool
 }
 
 impl Transfer {
-    ghost use Rattle.vv_calls.specs.Transfers.{data_len};
+    ghost use Rattle.vv_run.specs.Transfers.{data_len};
 
     /// How many bytes come with the command.
     pub fn data_len(self) -> u64

@@ -1,0 +1,4 @@
+pub mod Objects
+pub mod Runs
+pub mod Values
+pub mod Replies

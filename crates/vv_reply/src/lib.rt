@@ -1,0 +1,16 @@
+//! Replies, and the lines that are written for them.
+#![tactic(auto)]
+
+mod answers;
+mod buffer;
+mod fields;
+mod lists;
+mod names;
+mod refusals;
+mod reply;
+
+pub use buffer::ReplyBuffer;
+pub use reply::{Answer, BitList, Refusal, Reply, ScsiReply};
+
+#[cfg(test)]
+mod tests;

@@ -4,7 +4,6 @@ use Rattle.std.proofs.lemmas.Bool.{cond-true}
 use Rattle.std.proofs.lemmas.List.Elements.{filter-append}
 use Rattle.std.proofs.lemmas.List.{take-append-drop, take-append-le, drop_at}
 use Rattle.std.specs.Prelude.{Option, OnOk, OnErr, IfSome, ◌==◌}
-use Rattle.std.specs.List.{flat_map}
 use Rattle.std.specs.Io.KnownBytes.{Appends, Consumes, IsAtEnd}
 use Rattle.vv_run.specs.Lines.{pieces, ended_pieces, onto_first, onto_ended, has_text, lines_of, ended_lines_of}
 use Rattle.vv_reply.specs.Replies.{text_of}

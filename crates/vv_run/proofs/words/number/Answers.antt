@@ -1,4 +1,4 @@
-use Rattle.std.proofs.Common.{◌≡◌, arith, sym, ◌∙◌}
+use Rattle.std.proofs.Common.{arith, sym, ◌∙◌}
 use Rattle.vv_run.proofs.WordLemmas.{not_empty, parsed_number}
 use Rattle.vv_run.proofs.words.number.Goals as goal
 

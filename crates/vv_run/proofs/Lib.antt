@@ -1,5 +1,4 @@
 pub mod LineLemmas
-pub mod RunLemmas
 pub mod WordLemmas
 pub mod StreamLemmas
 pub mod ServingLemmas

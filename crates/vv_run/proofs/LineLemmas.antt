@@ -1,12 +1,12 @@
 -- How a script is cut into lines: its first line, and its last LF. For the functions that walk over a script.
-use Rattle.std.proofs.Common.{◌≡◌, ◌≢◌, ℕ, suc, ◌+◌, ◌-◌, ◌<◌, ◌≤◌, ◌++◌, List, [], ◌∷◌, Bool, true, false, not, cond, refl, sym, ap, ◌∙◌, length, take, drop, get_or, arith, add-one, length-append, drop-cons, length-drop}
+use Rattle.std.proofs.Common.{◌≡◌, ◌≢◌, ℕ, suc, ◌+◌, ◌-◌, ◌<◌, ◌≤◌, ◌++◌, List, [], ◌∷◌, Bool, true, false, not, cond, refl, sym, ap, ◌∙◌, length, take, drop, get_or, arith, drop-cons, length-drop}
 use Rattle.std.proofs.lemmas.List.{take-append-drop, drop_all, take_all, drop-drop}
 use Rattle.std.proofs.lemmas.List.Sums.{prefix_len-le-length}
-use Rattle.std.specs.Prelude.{◌==◌, nat_eq}
+use Rattle.std.specs.Prelude.{◌==◌}
 use Rattle.std.specs.List.{prefix_len}
-use Rattle.std.proofs.lemmas.Bool.{cond-false, cond-true}
-use Rattle.std.proofs.lemmas.Bool.Decides.{nat_tests, eqb_tells}
-use Rattle.vv_run.specs.Lines.{line_feed, onto_first, pieces, onto_ended, ended_pieces}
+use Rattle.std.proofs.lemmas.Bool.{cond-false}
+use Rattle.std.proofs.lemmas.Bool.Decides.{nat_tests}
+use Rattle.vv_run.specs.Lines.{onto_first, pieces, onto_ended, ended_pieces}
 
 -- no LF
 abbrev pub is_inside : ℕ → Bool

@@ -4,17 +4,15 @@ use Rattle.std.proofs.lemmas.Bool.{cond-true}
 use Rattle.std.proofs.lemmas.List.Elements.{filter-append}
 use Rattle.std.proofs.lemmas.List.{take-append-drop, take-append-le, drop_at}
 use Rattle.std.specs.Prelude.{Option, OnOk, OnErr, IfSome, ◌==◌}
-use Rattle.std.specs.List.{flat_map}
 use Rattle.std.specs.Io.KnownBytes.{Appends, Consumes, IsAtEnd}
 use Rattle.vv_run.specs.Lines.{pieces, ended_pieces, onto_first, onto_ended, has_text, lines_of, ended_lines_of}
-use Rattle.vv_run.specs.Replies.{text_of}
+use Rattle.vv_reply.specs.Replies.{text_of}
 use Rattle.vv_run.specs.State.{State, empty_array}
-use Rattle.vv_run.specs.Steps.{Step}
+use Rattle.vv_run.specs.Steps.{Step, no_memory}
 use Rattle.vv_run.specs.Runs.{Run, texts_of, Answered, CutShort, LineAnswered, LineCut}
 use Rattle.vv_run.specs.Writing.{AppendsOrForgets, StopsWithin}
 use Rattle.vv_run.specs.Reading.{ConsumesOrForgets}
-use Rattle.vv_run.specs.declared.reply.Reply.{Reply}
-use Rattle.vv_run.specs.declared.reply.Reply.TheVariants.{NoMemory}
+use Rattle.vv_reply.specs.declared.reply.Reply.{Reply}
 use Rattle.vv_run.specs.declared.status.Status.{Status}
 use Rattle.vv_run.proofs.StreamLemmas.{appends_nothing, appends_more}
 
@@ -87,18 +85,18 @@ pub record Progress (script rest : List ℕ) (before now : Option (List ℕ)) (a
 
 -- a line that there was no memory for
 pub no_memory_answered : {E : Type 0} (result : Result (Unit {0}) E) (old new : State) (line text : List ℕ) (before after : Option (List ℕ))
-    → text ≡ text_of NoMemory → new ≡ old → OnOk result (Appends before after text) → OnOk result (LineAnswered old line before after new)
+    → text ≡ text_of no_memory → new ≡ old → OnOk result (Appends before after text) → OnOk result (LineAnswered old line before after new)
 no_memory_answered (Ok u) old new line text before after is same written =
     let P : List ℕ → Type 0 = λ bytes. Appends before after bytes in
-    record { reply = NoMemory; step = inl (refl, same); written = subst P is written }
+    record { reply = no_memory; step = inl (refl, same); written = subst P is written }
 no_memory_answered (Err e) old new line text before after is same written = tt
 
 pub no_memory_cut : {E : Type 0} (result : Result (Unit {0}) E) (old new : State) (line text : List ℕ) (before after : Option (List ℕ))
-    → text ≡ text_of NoMemory → new ≡ old → OnErr result (StopsWithin before after text) → OnErr result (LineCut old line before after new)
+    → text ≡ text_of no_memory → new ≡ old → OnErr result (StopsWithin before after text) → OnErr result (LineCut old line before after new)
 no_memory_cut (Ok u) old new line text before after is same stops = tt
 no_memory_cut (Err e) old new line text before after is same stops =
     let P : List ℕ → Type 0 = λ bytes. StopsWithin before after bytes in
-    record { reply = NoMemory; step = inl (refl, same); stops = subst P is stops }
+    record { reply = no_memory; step = inl (refl, same); stops = subst P is stops }
 
 pub on_err : {T E : Type 0} (result : Result T E) (P : Type 0) → P → OnErr result P
 on_err (Ok x) P p = tt

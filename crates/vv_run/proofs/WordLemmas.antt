@@ -1,6 +1,6 @@
 -- The words of the command line: how many they are, and what the numbers among them are.
-use Rattle.std.proofs.Common.{◌≡◌, ◌≢◌, ℕ, suc, ◌+◌, ◌*◌, ◌<◌, ◌≤◌, ◌^◌, ◌&&◌, List, [], ◌∷◌, Bool, true, false, Result, Ok, Err, refl, sym, ap, ◌∙◌, length, get_or, map, arith, subst, string_bytes, String, Global, Some, None, cond, rules}
-use Rattle.std.specs.Prelude.{Option, ◌==◌, codes, nat_le, nat_lt}
+use Rattle.std.proofs.Common.{◌≡◌, ℕ, ◌<◌, ◌≤◌, ◌^◌, ◌&&◌, List, [], ◌∷◌, Bool, true, false, Result, Ok, Err, refl, sym, ap, ◌∙◌, length, get_or, map, arith, string_bytes, String, Global, Some, None, rules, true≢false}
+use Rattle.std.specs.Prelude.{◌==◌, codes, nat_le, nat_lt}
 use Rattle.std.specs.List.{list_all}
 use Rattle.std.specs.Str.{bytes_eq}
 use Rattle.std.specs.Str.Parse.{digits_value, digits_value_after, ParsesUnsigned}
@@ -86,3 +86,8 @@ parsed_number {E} word r parsed some few digits = read r (parse_digits own 64 wo
     read : (r : Result ℕ E) → OkIff r ((0 < length word) × (digits_value 10 word < 2 ^ 64)) (digits_value 10 word) → result_ok r ≡ number_of_word word
     read (Ok n) is = ap Some is.1 ∙ sym (number_inside word some few digits is.0.1)
     read (Err e) not = sym (number_outside word (λ small. not (some, small)))
+
+-- what a test for an empty word tells
+pub not_empty : (xs : List ℕ) (b : Bool) → b ≡ (length xs == 0) → b ≡ false → 0 < length xs
+not_empty [] b is not = absurd (true≢false (sym is ∙ not))
+not_empty (x ∷ xs) b is not = omega arith

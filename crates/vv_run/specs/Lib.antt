@@ -1,6 +1,5 @@
 pub mod Lines
 pub mod Words
-pub mod Replies
 pub mod Writing
 pub mod Reading
 pub mod Status

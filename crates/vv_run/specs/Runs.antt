@@ -2,13 +2,13 @@
 use Rattle.std.specs.Prelude.{◌≡◌, ℕ, ◌<◌, ◌≤◌, List, [], ◌∷◌, ◌++◌, length, Option, Some}
 use Rattle.std.specs.List.{flat_map}
 use Rattle.std.specs.Io.KnownBytes.{Appends}
-use Rattle.vv_run.specs.Replies.{text_of}
+use Rattle.vv_reply.specs.Replies.{text_of}
 use Rattle.vv_run.specs.State.{State, empty_array}
 use Rattle.vv_run.specs.Steps.{Step}
 use Rattle.vv_run.specs.Writing.{AppendsOrForgets, StopsWithin}
 use Rattle.vv_run.specs.Reading.{script_limit, ConsumesOrForgets}
 use Rattle.vv_run.specs.Lines.{ended_lines_of}
-use Rattle.vv_run.specs.declared.reply.Reply.{Reply}
+use Rattle.vv_reply.specs.declared.reply.Reply.{Reply}
 
 -- one step after another, one for each line
 abbrev pub Run : State → List (List ℕ) → List Reply → State → Type 0

@@ -1,5 +1,5 @@
 -- The array as it is served now: one volume as a flat list of bytes, and one binding of it.
-use Rattle.std.specs.Prelude.{ℕ, ◌+◌, ◌*◌, List, ◌++◌, length, take, drop, replicate, Option, Some, None}
+use Rattle.std.specs.Prelude.{ℕ, ◌+◌, ◌*◌, List, ◌++◌, length, take, drop, replicate, Option, None}
 use Rattle.vv_units.specs.Sizes.{block_bytes}
 use Rattle.vv_units.specs.declared.numbers.HostId.{HostId}
 

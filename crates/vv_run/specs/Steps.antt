@@ -16,31 +16,46 @@ use Rattle.vv_calls.specs.declared.call.LineFault.TheVariants as fault
 use Rattle.vv_run.specs.declared.transfer.Transfer.{Transfer}
 use Rattle.vv_run.specs.declared.transfer.Transfer.TheVariants.{Read, Write}
 use Rattle.vv_run.specs.State.{State, blank_volume, read_blocks, write_blocks}
-use Rattle.vv_run.specs.declared.reply.Reply.{Reply}
-use Rattle.vv_run.specs.declared.reply.Reply.TheVariants.{Vvol, Bound, Good, UnknownVvol, Unbound, NotJson, UnknownCall, MissingField, BadField, LineTooLong, NoMemory}
+use Rattle.vv_units.specs.declared.field.Field.TheVariants as field
+use Rattle.vv_reply.specs.declared.reply.Reply.{Reply}
+use Rattle.vv_reply.specs.declared.reply.Reply.TheVariants as a_reply
+use Rattle.vv_reply.specs.declared.reply.Answer.TheVariants as given
+use Rattle.vv_reply.specs.declared.reply.Refusal.TheVariants as refusal
 
--- the reply to a line that asks for nothing
-abbrev pub fault_reply : LineFault → Reply
-fault_reply fault.NotJson = NotJson
-fault_reply fault.UnknownCall = UnknownCall
-fault_reply (fault.MissingField name) = MissingField name
-fault_reply (fault.BadField name) = BadField name
-fault_reply fault.LineTooLong = LineTooLong
-fault_reply fault.NoMemory = NoMemory
+-- no form that is served
+abbrev pub unknown : Reply
+unknown = a_reply.Line fault.UnknownCall
+
+-- there was no memory
+abbrev pub no_memory : Reply
+no_memory = a_reply.Line fault.NoMemory
+
+-- no such volume stands
+abbrev pub missing : Reply
+missing = a_reply.Refused (refusal.NotFound field.Vvol)
+
+-- A command ended well, with these bytes. Or no volume is bound at that address of the host: 5/25/00 of SPC-5, logical
+-- unit not supported.
+
+abbrev pub good : List ℕ → Reply
+good payload = a_reply.Scsi (record { status = 0; sense = None; cause = None; payload = payload })
+
+abbrev pub unbound : Reply
+unbound = a_reply.Scsi (record { status = 2; sense = Some (record { key = 5; asc = 0x25; ascq = 0 }); cause = None; payload = [] })
 
 -- The volume is made once. Its number is 1, that of the first event.
 abbrev pub created : State → Option (List ℕ) → Reply × State
-created s None = (Vvol (record { 0 = 1 }), record s { volume = Some blank_volume })
-created s (Some bytes) = (UnknownCall, s)
+created s None = (a_reply.Done (given.Vvol (record { 0 = 1 })), record s { volume = Some blank_volume })
+created s (Some bytes) = (unknown, s)
 
 -- A volume that stands is bound once.
 abbrev pub bound_volume : State → HostId → VolumeId → Option (List ℕ) → Option HostId → Reply × State
-bound_volume s host vvol volume (Some other) = (UnknownCall, s)
-bound_volume s host vvol None None = (UnknownVvol, s)
+bound_volume s host vvol volume (Some other) = (unknown, s)
+bound_volume s host vvol None None = (missing, s)
 bound_volume s host vvol (Some bytes) None =
     if vvol.0 == 1
-    then (Bound (record { 0 = 1 }) (record { 0 = 1 }), record s { bound = Some host })
-    else (UnknownVvol, s)
+    then (a_reply.Done (given.Bound (record { 0 = 1 }) (record { 0 = 1 })), record s { bound = Some host })
+    else (missing, s)
 
 -- whether a command comes to the binding of this host
 abbrev pub is_for : HostId → ScsiCall → Bool
@@ -48,15 +63,15 @@ is_for host command = (command.host.0 == host.0) && (command.endpoint.0 == 1) &&
 
 -- Blocks of the volume are read, or written.
 abbrev pub transferred : State → List ℕ → List ℕ → Option Transfer → Reply × State
-transferred s bytes payload (Some (Read lba blocks)) = (Good (read_blocks bytes lba blocks), s)
-transferred s bytes payload (Some (Write lba blocks)) = (Good [], record s { volume = Some (write_blocks bytes lba payload) })
-transferred s bytes payload None = (UnknownCall, s)
+transferred s bytes payload (Some (Read lba blocks)) = (good (read_blocks bytes lba blocks), s)
+transferred s bytes payload (Some (Write lba blocks)) = (good [], record s { volume = Some (write_blocks bytes lba payload) })
+transferred s bytes payload None = (unknown, s)
 
 abbrev pub commanded : State → ScsiCall → Option (List ℕ) → Option HostId → Reply × State
 commanded s command (Some bytes) (Some host) =
-    if is_for host command then transferred s bytes command.payload (transfer_in command.cdb) else (Unbound, s)
-commanded s command (Some bytes) None = (Unbound, s)
-commanded s command None bound = (Unbound, s)
+    if is_for host command then transferred s bytes command.payload (transfer_in command.cdb) else (unbound, s)
+commanded s command (Some bytes) None = (unbound, s)
+commanded s command None bound = (unbound, s)
 
 -- A volume is served as a Data vvol of 4 MB, in no container of its own and without a profile.
 
@@ -80,16 +95,16 @@ is_served_command command = nat_le 1 command.secondary.0 && takes_payload comman
 -- what a call does
 abbrev pub served : State → Call → Reply × State
 served s (CreateVirtualVolume container kind size profile) =
-    if is_served_volume container kind size profile then created s s.volume else (UnknownCall, s)
+    if is_served_volume container kind size profile then created s s.volume else (unknown, s)
 served s (BindVirtualVolume host vvol) = bound_volume s host vvol s.volume s.bound
-served s (Scsi command) = if is_served_command command then commanded s command s.volume s.bound else (UnknownCall, s)
-served s _ = (UnknownCall, s)
+served s (Scsi command) = if is_served_command command then commanded s command s.volume s.bound else (unknown, s)
+served s _ = (unknown, s)
 
 -- the reply to a line, and the array after it
 abbrev pub answer : State → Result Call LineFault → Reply × State
-answer s (Err fault) = (fault_reply fault, s)
+answer s (Err e) = (a_reply.Line e, s)
 answer s (Ok call) = served s call
 
 -- From an array a line may get this reply and leave that array. Want of memory may come at any line, and changes nothing.
 abbrev pub Step : State → List ℕ → Reply → State → Type 0
-Step old line reply new = ((reply ≡ NoMemory) × (new ≡ old)) ⊎ ((reply, new) ≡ answer old (line_reading line))
+Step old line reply new = ((reply ≡ no_memory) × (new ≡ old)) ⊎ ((reply, new) ≡ answer old (line_reading line))

@@ -6,15 +6,16 @@ ghost use Rattle.vv_calls.specs.Lines.{line_reading};
 ghost use Rattle.vv_calls.specs.Formed.{IsFormed, IsCommand};
 ghost use Rattle.vv_run.specs.Transfers.{transfer_in};
 ghost use Rattle.vv_run.specs.State.{empty_array, volume_bytes, blank_volume, read_blocks, write_blocks};
-ghost use Rattle.vv_run.specs.Replies.{text_of, HasIdentifier};
-ghost use Rattle.vv_run.specs.Steps.{answer, served, created, bound_volume, commanded, is_for, is_data, is_served_command, takes_payload};
+ghost use Rattle.vv_reply.specs.Replies.{FitsReply};
+ghost use Rattle.vv_run.specs.Steps.{answer, served, created, bound_volume, commanded, is_for, is_data, is_served_command, takes_payload, good, unbound};
 
-use crate::Reply;
 use crate::transfer::{Transfer, transfer_of};
 use std::alloc::{AllocError, Global};
 use std::marker::Model;
 use vv_calls::{Call, LineFault, ScsiCall, read_line};
-use vv_units::{ByteList, EndpointId, HostId, NoMemory, Secondary, VolumeId, VvolType};
+use vv_cdb::Sense;
+use vv_reply::{Answer, Refusal, Reply, ScsiReply};
+use vv_units::{ByteList, EndpointId, Field, HostId, NoMemory, Secondary, VolumeId, VvolType};
 
 const VOLUME_BYTES: usize = 8192 * BLOCK_BYTES;
 
@@ -28,6 +29,13 @@ const THE_ENDPOINT: EndpointId = EndpointId(1);
 
 /// The secondary identifier by which it is bound.
 const THE_SECONDARY: Secondary = Secondary(1);
+
+/// Logical unit not supported (SPC-5).
+const NOT_SUPPORTED: Sense = Sense {
+    key: 5,
+    asc: 0x25,
+    ascq: 0,
+};
 
 /// One volume, which is made once, and its one binding.
 #[derive(Drop)]
@@ -59,26 +67,30 @@ impl FlatArray {
         }
     }
 
-    /// Answers a line, and gives the text of its reply. Want of memory changes nothing.
-    pub fn answer(&mut self, alloc: Global, line: &[u8]) -> Result<String, NoMemory>
-        ensures text { IfOk result (λ text. string_bytes text ≡ text_of (answer self.old (line_reading line.now)).0) }
+    /// Answers a line. Want of memory changes nothing.
+    pub fn answer(&mut self, alloc: Global, line: &[u8]) -> Result<Reply, NoMemory>
+        ensures reply { IfOk result (λ reply. reply ≡ (answer self.old (line_reading line.now)).0) }
+        ensures fits { IfOk result FitsReply }
         ensures after { OnOk result (self.new ≡ (answer self.old (line_reading line.now)).1) }
         ensures err { OnErr result (self.new ≡ self.old) }
     {
         match read_line(alloc, line) {
             Ok(call) => self.serve(alloc, &call),
-            Err(LineFault::NotJson) => text(alloc, Reply::NotJson),
-            Err(LineFault::UnknownCall) => text(alloc, Reply::UnknownCall),
-            Err(LineFault::MissingField { name }) => text(alloc, Reply::MissingField(name)),
-            Err(LineFault::BadField { name }) => text(alloc, Reply::BadField(name)),
-            Err(LineFault::LineTooLong) => text(alloc, Reply::LineTooLong),
+            Err(LineFault::NotJson) => Ok(Reply::Line(LineFault::NotJson)),
+            Err(LineFault::UnknownCall) => Ok(Reply::Line(LineFault::UnknownCall)),
+            Err(LineFault::MissingField { name }) => {
+                Ok(Reply::Line(LineFault::MissingField { name }))
+            }
+            Err(LineFault::BadField { name }) => Ok(Reply::Line(LineFault::BadField { name })),
+            Err(LineFault::LineTooLong) => Ok(Reply::Line(LineFault::LineTooLong)),
             Err(LineFault::NoMemory) => Err(NoMemory),
         }
     }
 
-    fn serve(&mut self, alloc: Global, call: &Call) -> Result<String, NoMemory>
+    fn serve(&mut self, alloc: Global, call: &Call) -> Result<Reply, NoMemory>
         requires { IsFormed call.now }
-        ensures text { IfOk result (λ text. string_bytes text ≡ text_of (served self.old call.now).0) }
+        ensures reply { IfOk result (λ reply. reply ≡ (served self.old call.now).0) }
+        ensures fits { IfOk result FitsReply }
         ensures after { OnOk result (self.new ≡ (served self.old call.now).1) }
         ensures err { OnErr result (self.new ≡ self.old) }
     {
@@ -89,73 +101,77 @@ impl FlatArray {
                 size_in_mb: 4,
                 profile: None,
             } if is_data(*vvol_type) => self.create(alloc),
-            Call::BindVirtualVolume { host, vvol } => self.bind(alloc, *host, *vvol),
+            Call::BindVirtualVolume { host, vvol } => Ok(self.bind(*host, *vvol)),
             Call::Scsi(command) if is_served_command(command) => self.command(alloc, command),
-            _ => text(alloc, Reply::UnknownCall),
+            _ => Ok(Reply::Line(LineFault::UnknownCall)),
         }
     }
 
-    fn create(&mut self, alloc: Global) -> Result<String, NoMemory>
-        ensures text { IfOk result (λ text. string_bytes text ≡ text_of (created self.old self.old.volume).0) }
+    fn create(&mut self, alloc: Global) -> Result<Reply, NoMemory>
+        ensures reply { IfOk result (λ reply. reply ≡ (created self.old self.old.volume).0) }
+        ensures fits { IfOk result FitsReply }
         ensures after { OnOk result (self.new ≡ (created self.old self.old.volume).1) }
         ensures err { OnErr result (self.new ≡ self.old) }
     {
         if self.volume.is_some() {
-            return text(alloc, Reply::UnknownCall);
+            return Ok(Reply::Line(LineFault::UnknownCall));
         }
         let blank = make_blank(alloc)?;
-        let text = text(alloc, Reply::Vvol(THE_VOLUME))?;
         self.volume = Some(blank);
-        Ok(text)
+        Ok(Reply::Done(Answer::Vvol { vvol: THE_VOLUME }))
     }
 
-    fn bind(&mut self, alloc: Global, host: HostId, vvol: VolumeId) -> Result<String, NoMemory>
-        ensures text { IfOk result (λ text. string_bytes text ≡ text_of (bound_volume self.old host vvol self.old.volume self.old.bound).0) }
-        ensures after { OnOk result (self.new ≡ (bound_volume self.old host vvol self.old.volume self.old.bound).1) }
-        ensures err { OnErr result (self.new ≡ self.old) }
+    fn bind(&mut self, host: HostId, vvol: VolumeId) -> Reply
+        ensures reply { result ≡ (bound_volume self.old host vvol self.old.volume self.old.bound).0 }
+        ensures fits { FitsReply result }
+        ensures after { self.new ≡ (bound_volume self.old host vvol self.old.volume self.old.bound).1 }
     {
         if self.bound.is_some() {
-            return text(alloc, Reply::UnknownCall);
+            return Reply::Line(LineFault::UnknownCall);
         }
         if self.volume.is_none() || vvol.0 != THE_VOLUME.0 {
-            return text(alloc, Reply::UnknownVvol);
+            return Reply::Refused(Refusal::NotFound { name: Field::Vvol });
         }
-        let text = text(alloc, Reply::Bound(THE_ENDPOINT, THE_SECONDARY))?;
         self.bound = Some(host);
-        Ok(text)
+        Reply::Done(Answer::Bound {
+            endpoint: THE_ENDPOINT,
+            secondary: THE_SECONDARY,
+        })
     }
 
-    fn command(&mut self, alloc: Global, command: &ScsiCall) -> Result<String, NoMemory>
+    fn command(&mut self, alloc: Global, command: &ScsiCall) -> Result<Reply, NoMemory>
         requires formed { IsCommand command.now }
         requires served { IsTrue (is_served_command command.now) }
-        ensures text { IfOk result (λ text. string_bytes text ≡ text_of (commanded self.old command.now self.old.volume self.old.bound).0) }
+        ensures reply { IfOk result (λ reply. reply ≡ (commanded self.old command.now self.old.volume self.old.bound).0) }
+        ensures fits { IfOk result FitsReply }
         ensures after { OnOk result (self.new ≡ (commanded self.old command.now self.old.volume self.old.bound).1) }
         ensures err { OnErr result (self.new ≡ self.old) }
     {
         let Some(host) = self.bound else {
-            return text(alloc, Reply::Unbound);
+            return Ok(unbound(alloc));
         };
         if self.volume.is_none() || !is_for(host, command) {
-            return text(alloc, Reply::Unbound);
+            return Ok(unbound(alloc));
         }
         match transfer_of(command.cdb.items()) {
             Some(Transfer::Read { lba, blocks }) => {
                 let payload = self.read(alloc, lba, blocks)?;
-                text(alloc, Reply::Good(ByteList::of(payload)))
+                Ok(good(payload))
             }
             Some(Transfer::Write { lba, .. }) => {
-                let text = text(alloc, Reply::Good(ByteList::of(Vec::new(alloc))))?;
                 self.write(lba, command.payload.items());
-                Ok(text)
+                Ok(good(Vec::new(alloc)))
             }
-            None => text(alloc, Reply::UnknownCall),
+            None => Ok(Reply::Line(LineFault::UnknownCall)),
         }
     }
 
     #[tactic(auto, unfolding(crate::specs::State::volume_bytes))]
     fn read(&self, alloc: Global, first: u64, blocks: u32) -> Result<Vec<u8>, NoMemory>
-        requires { first + blocks ≤ 8192 }
-        ensures { IfOk result (λ copy. IfSome self.now.volume (λ bytes. copy.items ≡ read_blocks bytes first blocks)) }
+        requires inside { first + blocks ≤ 8192 }
+        requires few { blocks ≤ 2048 }
+        ensures copy { IfOk result (λ copy. IfSome self.now.volume (λ bytes. copy.items ≡ read_blocks bytes first blocks)) }
+        ensures few { IfOk result (λ copy. length copy.items ≤ 1048576) }
     {
         match &self.volume {
             Some(bytes) => copy_blocks(alloc, bytes, first as usize, blocks as usize),
@@ -174,11 +190,31 @@ impl FlatArray {
     }
 }
 
-fn text(alloc: Global, reply: Reply) -> Result<String, NoMemory>
-    requires { HasIdentifier reply }
-    ensures { IfOk result (λ text. string_bytes text ≡ text_of reply) }
+/// A command ended well, with these bytes.
+fn good(payload: Vec<u8>) -> Reply
+    requires { length payload.items ≤ 1048576 }
+    ensures reply { result ≡ good payload.items }
+    ensures fits { FitsReply result }
 {
-    reply.text(alloc).map_err(|_| NoMemory)
+    Reply::Scsi(ScsiReply {
+        status: 0,
+        sense: None,
+        cause: None,
+        payload: ByteList::of(payload),
+    })
+}
+
+/// No volume is bound at that address.
+fn unbound(alloc: Global) -> Reply
+    ensures reply { result ≡ unbound }
+    ensures fits { FitsReply result }
+{
+    Reply::Scsi(ScsiReply {
+        status: 2,
+        sense: Some(NOT_SUPPORTED),
+        cause: None,
+        payload: ByteList::of(Vec::new(alloc)),
+    })
 }
 
 fn is_data(vvol_type: VvolType) -> bool
@@ -239,7 +275,8 @@ fn copy_blocks(
     blocks: usize,
 ) -> Result<Vec<u8>, NoMemory>
     requires { first * block_bytes + blocks * block_bytes ≤ length bytes.now }
-    ensures { IfOk result (λ copy. copy.items ≡ read_blocks bytes.now first blocks) }
+    ensures copy { IfOk result (λ copy. copy.items ≡ read_blocks bytes.now first blocks) }
+    ensures length { IfOk result (λ copy. length copy.items ≡ blocks * block_bytes) }
 {
     let (_, after) = bytes.split_at(first * BLOCK_BYTES);
     let (wanted, _) = after.split_at(blocks * BLOCK_BYTES);

@@ -3,8 +3,6 @@
 
 mod array;
 mod lines;
-mod reply;
-mod runs;
 mod script;
 mod serving;
 mod status;
@@ -13,7 +11,6 @@ mod transfer;
 mod words;
 mod writing;
 
-pub use reply::Reply;
 pub use status::Status;
 pub use top_call::run;
 

@@ -14,6 +14,7 @@ use crate::serving::serve_lines;
 use crate::words::are_words;
 use std::alloc::Global;
 use vv_io::{Sink, Source};
+use vv_reply::ReplyBuffer;
 use vv_units::Failed;
 
 /// Runs the program: with the words `new PATH CHUNKS BLOCKS MAP` it reads a script from the source and writes the
@@ -65,18 +66,21 @@ pub fn run<S: Source, K: Sink>(
     if !are_words(words) {
         return Status::BadWords;
     }
+    let Ok(mut buffer) = ReplyBuffer::new(alloc) else {
+        return Status::NoMemory;
+    };
     let mut script = Vec::new(alloc);
     let ending = read_script(source, &mut script);
     match ending {
-        Ending::End => status_of(serve_lines(alloc, &script, sink), Status::Done),
+        Ending::End => status_of(serve_lines(alloc, &mut buffer, &script, sink), Status::Done),
         Ending::Fault => status_of(
-            serve_lines(alloc, whole_lines(&script), sink),
+            serve_lines(alloc, &mut buffer, whole_lines(&script), sink),
             Status::SourceFault,
         ),
         Ending::TooMuch => {
             let (front, _) = script.split_at(SCRIPT_LIMIT);
             status_of(
-                serve_lines(alloc, whole_lines(front), sink),
+                serve_lines(alloc, &mut buffer, whole_lines(front), sink),
                 Status::TooMuch,
             )
         }

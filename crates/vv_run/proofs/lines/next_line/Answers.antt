@@ -1,4 +1,4 @@
-use Rattle.std.proofs.Common.{arith, ap}
+use Rattle.std.proofs.Common.{arith}
 use Rattle.vv_run.proofs.LineLemmas.{no_feed, with_feed, line_len_bound}
 use Rattle.vv_run.proofs.lines.next_line.Goals as goal
 

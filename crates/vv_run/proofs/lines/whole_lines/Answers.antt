@@ -1,4 +1,4 @@
-use Rattle.std.proofs.Common.{◌≡◌, ℕ, List, ◌++◌, ◌∷◌, [], arith, ap, sym, ◌∙◌, length, take, get_or, ◌-◌}
+use Rattle.std.proofs.Common.{◌≡◌, ℕ, List, ◌++◌, ◌∷◌, [], ap, sym, ◌∙◌, length, take, get_or, ◌-◌}
 use Rattle.vv_run.specs.Lines.{pieces, ended_pieces}
 use Rattle.vv_run.proofs.LineLemmas.{front_and_last, ended_all, ended_more}
 use Rattle.vv_run.proofs.lines.whole_lines.Goals as goal

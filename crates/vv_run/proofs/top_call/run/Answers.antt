@@ -1,4 +1,4 @@
-use Rattle.std.proofs.Common.{◌≡◌, List, ℕ, arith, refl, sym, ap, take, ◌∙◌, filter, subst}
+use Rattle.std.proofs.Common.{List, ℕ, arith, refl, ap, take, ◌∙◌, filter, subst}
 use Rattle.vv_run.specs.Lines.{pieces, ended_pieces, has_text}
 use Rattle.vv_run.specs.Reading.{script_limit}
 use Rattle.vv_run.specs.Runs.{CutShort, Answered}

@@ -1,4 +1,4 @@
-use Rattle.std.proofs.Common.{◌≡◌, ℕ, List, Bool, true, false, ◌&&◌, arith, refl, sym, ap, ◌∙◌, string_bytes}
+use Rattle.std.proofs.Common.{ℕ, sym, ap, ◌∙◌, string_bytes}
 use Rattle.std.specs.Prelude.{Option}
 use Rattle.vv_run.specs.Words.{number_of_word, are_numbers}
 use Rattle.vv_run.proofs.WordLemmas.{verb_passed, five_words, fewer_words, more_words}

@@ -1,6 +1,5 @@
-use Rattle.std.proofs.Common.{◌≡◌, arith, sym, ◌∙◌}
-use Rattle.vv_run.proofs.RunLemmas.{not_empty}
-use Rattle.vv_run.proofs.WordLemmas.{parsed_number}
+use Rattle.std.proofs.Common.{arith, sym, ◌∙◌}
+use Rattle.vv_run.proofs.WordLemmas.{not_empty, parsed_number}
 use Rattle.vv_run.proofs.words.number.Goals as goal
 
 pub returns : goal.returns

@@ -7,7 +7,7 @@ use vv_record::RecordFault;
 pub enum AreaFault {
     /// They are the spelling of no tables, as the field at this place shows.
     Bad { at: usize },
-    /// The tables break a rule, and this was found.
+    /// The tables break a rule, and this was found. What reads an area never answers it.
     Rule { rule: u64, found: u64 },
     /// There was no memory to look at them.
     NoMemory,

@@ -1,4 +1,4 @@
-//! The area of an image: its tables as bytes, and the rules that they keep.
+//! The area of an image: its tables as bytes.
 #![tactic(auto)]
 
 mod bindings;

@@ -1,5 +1,5 @@
 //! Reading a script.
-ghost use Rattle.std.specs.Prelude.{◌≡◌, ◌+◌, ◌≤◌, [], length, vec_len};
+ghost use Rattle.std.specs.Prelude.{◌≡◌, ◌≢◌, ◌+◌, ◌≤◌, [], length, vec_len};
 ghost use Rattle.std.specs.Io.KnownBytes.{Consumes, IsAtEnd};
 ghost use Rattle.vv_units.specs.Causes.{Rose};
 ghost use Rattle.vv_run.specs.Reading.{script_limit, ConsumesOrForgets};
@@ -29,6 +29,7 @@ pub fn read_script<S: Source>(source: &mut S, script: &mut Vec<u8>) -> Ending
     requires { script.old.items ≡ [] }
     ensures later { S.faults source.old ≤ S.faults source.new }
     ensures fault { result ≡ Ending.Fault → Rose (S.faults source.old) (S.faults source.new) }
+    ensures no_fault { result ≢ Ending.Fault → S.faults source.new ≡ S.faults source.old }
     ensures taken_at_fault { result ≡ Ending.Fault → ConsumesOrForgets (S.left source.old) (S.left source.new) script.new.items }
     ensures taken_at_end { result ≡ Ending.End → Consumes (S.left source.old) (S.left source.new) script.new.items }
     ensures end { result ≡ Ending.End → IsAtEnd (S.left source.new) }

@@ -1,8 +1,9 @@
 //! The program over a source and a sink in memory.
 use crate::{Status, run};
 use std::alloc::{AllocError, Global};
+use std::io;
 use std::test::Fail;
-use vv_io::{MemSink, MemSource};
+use vv_io::{MemSink, MemSource, StdSource};
 
 const CREATE: &str = "{\"call\":\"createVirtualVolume\",\"sizeInMB\":4,\"vvolType\":\"Data\"}";
 
@@ -213,4 +214,39 @@ fn statuses_have_their_codes(rt: HostRuntime) {
     for (status, code) in codes {
         assert_eq!(rt; status.code(), code);
     }
+}
+
+/// A reader of std that gives a digit, its end, and then one more digit.
+#[derive(Drop)]
+struct Resuming {
+    reads: u8,
+}
+
+impl io::Read for Resuming {
+    fn read(&mut self, buffer: &mut [u8]) -> io::Result<usize> {
+        let gives = self.reads != 1 && self.reads < 3;
+        self.reads = self.reads.saturating_add(1);
+        match buffer {
+            [first, ..] if gives => {
+                *first = b'1';
+                Ok(1)
+            }
+            _ => Ok(0),
+        }
+    }
+}
+
+#[test]
+fn the_end_of_a_reader_is_the_end(rt: HostRuntime) -> Result<(), Fail> {
+    let alloc = rt.alloc();
+    let mut source = StdSource::new(Resuming { reads: 0 });
+    let mut sink = MemSink::new(alloc, 4096, Vec::new(alloc))?;
+    let words = words(alloc, WORDS)?;
+    let status = run(alloc, &words, &mut source, &mut sink);
+    assert_eq!(rt; status, Status::Done);
+    assert_eq!(rt; sink.bytes(), NO_CALL.as_bytes());
+    // The second digit is still to come: nothing was read after the end.
+    let mut into = [0; 1];
+    assert_eq!(rt; vv_io::Source::read(&mut source, &mut into), Ok(1));
+    Ok(())
 }

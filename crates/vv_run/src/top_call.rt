@@ -1,5 +1,5 @@
 //! The top call.
-ghost use Rattle.std.specs.Prelude.{◌≡◌, ◌⊎◌, ◌↔◌, ◌<◌, ◌≤◌, map, true, false, Some, drop, ◌+◌, length, take, string_bytes, IfSome, OnOk, OnErr};
+ghost use Rattle.std.specs.Prelude.{◌≡◌, ◌≢◌, ◌⊎◌, ◌↔◌, ◌<◌, ◌≤◌, map, true, false, Some, drop, ◌+◌, length, take, string_bytes, IfSome, OnOk, OnErr};
 ghost use Rattle.std.specs.Io.KnownBytes.{Consumes, IsAtEnd};
 ghost use Rattle.vv_units.specs.Causes.{Rose};
 ghost use Rattle.vv_run.specs.Lines.{lines_of, ended_lines_of};
@@ -58,6 +58,10 @@ pub fn run<S: Source, K: Sink>(
     ensures complete { are_words (map (λ word. string_bytes word) words.now) ≡ true → IfSome (S.left source.old) (λ told.
         length told ≤ script_limit → ¬ (Rose (S.faults source.old) (S.faults source.new)) → ¬ (Rose (K.faults sink.old) (K.faults sink.new))
         → (result ≡ Status.Done) ⊎ (result ≡ Status.NoMemory)) }
+
+    // No fault is passed over: where the status tells none, no count rose, and where it isn't the sink's, the sink's didn't.
+    ensures no_source_fault { result ≢ Status.SourceFault → result ≢ Status.SinkFault → S.faults source.new ≡ S.faults source.old }
+    ensures no_sink_fault { result ≢ Status.SinkFault → K.faults sink.new ≡ K.faults sink.old }
 
     // Counts of faults don't fall.
     ensures source_later { S.faults source.old ≤ S.faults source.new }

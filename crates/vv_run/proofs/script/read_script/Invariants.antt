@@ -1,4 +1,4 @@
-use Rattle.std.proofs.Common.{◌+◌, ◌-◌, ◌≤◌, vec_len}
+use Rattle.std.proofs.Common.{◌≡◌, ◌+◌, ◌-◌, ◌≤◌, vec_len}
 use Rattle.std.specs.Io.KnownBytes.{Consumes}
 use Rattle.vv_run.specs.Reading.{script_limit}
 use Rattle.vv_run.proofs.script.read_script.Given as goal
@@ -8,7 +8,7 @@ invariant-loop-piece g l =
     let source = g.S.Source in
     record {
       taken : Consumes (source.left l.fn.source) (source.left l.source) l.script.items;
-      later : source.faults l.fn.source ≤ source.faults l.source;
+      no_fault : source.faults l.source ≡ source.faults l.fn.source;
       within : vec_len l.script ≤ script_limit + 1;
     }
 

@@ -1,4 +1,7 @@
 //! The line of each reply.
+ghost use Rattle.std.specs.Prelude.{◌≤◌, IfOk, vec_len};
+ghost use Rattle.vv_reply.specs.Replies.{FitsAnswer, FitsKind};
+
 use crate::{Answer, BitList, Refusal, Reply, ReplyBuffer, ScsiReply};
 use std::alloc::Global;
 use std::process::Abort;
@@ -14,11 +17,11 @@ use vv_units::{
 const ANSWERS: [(Plain, &str); 13] = [
     (Plain::Empty, "{\"ok\":true}\n"),
     (
-        Plain::Container(0),
+        Plain::Container,
         "{\"container\":\"rfc4122.00000000-0001-8000-8000-000000000000\",\"ok\":true}\n",
     ),
     (
-        Plain::Vvol(1),
+        Plain::Vvol,
         "{\"ok\":true,\"vvol\":\"rfc4122.00000000-0001-8000-8000-000000000001\"}\n",
     ),
     (
@@ -49,8 +52,8 @@ const ANSWERS: [(Plain, &str); 13] = [
 #[derive(Clone, Copy)]
 enum Plain {
     Empty,
-    Container(u64),
-    Vvol(u64),
+    Container,
+    Vvol,
     CloneStart,
     CopyStart,
     TaskNow,
@@ -63,15 +66,15 @@ enum Plain {
     Queued,
 }
 
-fn answer(plain: Plain) -> Answer {
+fn answer(plain: Plain) -> Answer
+    ensures { FitsAnswer result }
+{
     match plain {
         Plain::Empty => Answer::Empty,
-        Plain::Container(number) => Answer::Container {
-            container: ContainerId(number),
+        Plain::Container => Answer::Container {
+            container: ContainerId(0),
         },
-        Plain::Vvol(number) => Answer::Vvol {
-            vvol: VolumeId(number),
-        },
+        Plain::Vvol => Answer::Vvol { vvol: VolumeId(1) },
         Plain::CloneStart => Answer::CloneStart {
             target: VolumeId(4),
             task: TaskId(4),
@@ -159,7 +162,10 @@ const PLAIN: &str =
 const CLONE: &str =
     "{\"allocated\":1,\"chunks\":4,\"container\":\"rfc4122.00000000-0001-8000-8000-000000000000\",\"kind\":\"FastClone\",\"metadata\":[[\"a\",\"1\"],[\"b\",\"\"]],\"of\":\"rfc4122.00000000-0001-8000-8000-000000000001\",\"ok\":true,\"profile\":[[\"min-iops\",500]],\"reverted\":9,\"type\":\"Data\"}\n";
 
-fn volume(alloc: Global, kind: VolumeKind) -> Result<Answer, Fail> {
+fn volume(alloc: Global, kind: VolumeKind) -> Result<Answer, Fail>
+    requires { FitsKind kind }
+    ensures { IfOk result FitsAnswer }
+{
     let mut metadata = PairList::new(alloc);
     for (key, note) in [("a", "1"), ("b", "")] {
         if let Some(key) = Key::read(alloc, key.as_bytes())? {
@@ -169,6 +175,9 @@ fn volume(alloc: Global, kind: VolumeKind) -> Result<Answer, Fail> {
     let mut profile = Vec::new(alloc);
     if let Some(name) = Name::read(alloc, b"min-iops")? {
         profile.push(Need { name, value: 500 })?;
+    }
+    if metadata.len() > 64 || profile.len() > 8 {
+        return Ok(Answer::Empty);
     }
     Ok(Answer::Volume {
         allocated: 1,
@@ -389,7 +398,9 @@ fn ends_of_commands_have_their_lines(rt: HostRuntime) -> Result<(), Fail> {
 }
 
 // Whether GOOD with these bytes has this line.
-fn gives(rt: &impl Abort, alloc: Global, bytes: Vec<u8>, line: &str) -> Result<(), Fail> {
+fn gives(rt: &impl Abort, alloc: Global, bytes: Vec<u8>, line: &str) -> Result<(), Fail>
+    requires { vec_len bytes ≤ 1048576 }
+{
     let mut buffer = ReplyBuffer::new(alloc)?;
     buffer.fill(&Reply::Scsi(ScsiReply {
         status: 0,
@@ -425,7 +436,7 @@ fn data_are_runs_of_equal_bytes(rt: HostRuntime) -> Result<(), Fail> {
 fn the_longest_line_fits(rt: HostRuntime) -> Result<(), Fail> {
     let alloc = rt.alloc();
     let mut bytes = Vec::new(alloc);
-    for _ in 0..524_288 {
+    for _pair in 0..524_288u32 {
         bytes.extend_from_slice(&[1, 2])?;
     }
     let mut buffer = ReplyBuffer::new(alloc)?;

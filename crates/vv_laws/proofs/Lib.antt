@@ -14,4 +14,6 @@ pub mod FlatKeeps
 pub mod WellFormedArrays
 pub mod VolatileForms
 pub mod KeptNumbers
+pub mod AllocatedCounts
+pub mod AllocatedVolumes
 pub mod FilledArrays

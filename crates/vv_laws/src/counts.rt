@@ -7,9 +7,9 @@ ghost use Rattle.vv_flat.specs.Space.{entries, reserved, is_running, is_clone};
 ghost use Rattle.vv_flat.specs.Tasks.{turned_indexes, next_piece};
 ghost use Rattle.vv_flat.specs.Profiles.{Misfit};
 ghost use Rattle.vv_flat.specs.Refusals.{Accept};
-ghost use Rattle.vv_flat.specs.Changes.{Change, judge, apply_shape};
+ghost use Rattle.vv_flat.specs.Changes.{Change, judge, apply_shape, allocated_of};
 ghost use Rattle.vv_flat.specs.WellFormed.{is_well_formed_shape};
-ghost use Rattle.vv_laws.specs.Counts.{entries_added, entries_taken, reserved_added, reserved_taken};
+ghost use Rattle.vv_laws.specs.Counts.{entries_added, entries_taken, reserved_added, reserved_taken, allocated_added, allocated_taken};
 
 /// What an accepted change of each kind adds to the entries of all lists, and what it takes from them.
 pub fn entries_go_by_the_change()
@@ -22,6 +22,14 @@ pub fn reserved_chunks_go_by_the_change()
     ensures { (misfit : Option Misfit) → (d : Durable ℕ) → (change : Change) → IsTrue (is_well_formed_shape d)
         → judge misfit d change ≡ Accept
         → reserved (apply_shape d change) + reserved_taken d change ≡ reserved d + reserved_added d change }
+{}
+
+/// What it adds to the allocated chunks of each volume, and takes from them; a volume that doesn't stand has none.
+pub fn allocated_chunks_go_by_the_change()
+    ensures { (misfit : Option Misfit) → (d : Durable ℕ) → (change : Change) → IsTrue (is_well_formed_shape d)
+        → judge misfit d change ≡ Accept → (volume : ℕ)
+        → allocated_of (apply_shape d change) volume + allocated_taken d change volume
+        ≡ allocated_of d volume + allocated_added d change volume }
 {}
 
 /// A turn copies 16 chunks at most.

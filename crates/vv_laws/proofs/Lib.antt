@@ -16,4 +16,5 @@ pub mod VolatileForms
 pub mod KeptNumbers
 pub mod AllocatedCounts
 pub mod AllocatedVolumes
+pub mod ChargedCounts
 pub mod FilledArrays

@@ -3,13 +3,13 @@ ghost use Rattle.std.specs.Prelude.{◌≡◌, ◌≤◌, ◌+◌, ℕ, Option, 
 ghost use Rattle.vv_units.specs.Sizes.{is_chunk_size};
 ghost use Rattle.vv_flat.specs.State.{Durable, Task, task_of};
 ghost use Rattle.vv_flat.specs.Chunks.{touched_indexes};
-ghost use Rattle.vv_flat.specs.Space.{entries, reserved, is_running, is_clone};
+ghost use Rattle.vv_flat.specs.Space.{entries, reserved, charge, is_running, is_clone};
 ghost use Rattle.vv_flat.specs.Tasks.{turned_indexes, next_piece};
 ghost use Rattle.vv_flat.specs.Profiles.{Misfit};
 ghost use Rattle.vv_flat.specs.Refusals.{Accept};
 ghost use Rattle.vv_flat.specs.Changes.{Change, judge, apply_shape, allocated_of};
 ghost use Rattle.vv_flat.specs.WellFormed.{is_well_formed_shape};
-ghost use Rattle.vv_laws.specs.Counts.{entries_added, entries_taken, reserved_added, reserved_taken, allocated_added, allocated_taken};
+ghost use Rattle.vv_laws.specs.Counts.{entries_added, entries_taken, reserved_added, reserved_taken, allocated_added, allocated_taken, charge_added, charge_taken};
 
 /// What an accepted change of each kind adds to the entries of all lists, and what it takes from them.
 pub fn entries_go_by_the_change()
@@ -30,6 +30,14 @@ pub fn allocated_chunks_go_by_the_change()
         → judge misfit d change ≡ Accept → (volume : ℕ)
         → allocated_of (apply_shape d change) volume + allocated_taken d change volume
         ≡ allocated_of d volume + allocated_added d change volume }
+{}
+
+/// And what it adds to what each container is charged for, and takes from it.
+pub fn charges_go_by_the_change()
+    ensures { (misfit : Option Misfit) → (d : Durable ℕ) → (change : Change) → IsTrue (is_well_formed_shape d)
+        → judge misfit d change ≡ Accept → (container : ℕ)
+        → charge (apply_shape d change) container + charge_taken d change container
+        ≡ charge d container + charge_added d change container }
 {}
 
 /// A turn copies 16 chunks at most.

@@ -1,8 +1,8 @@
 -- What each container is charged for after an accepted change, kind by kind.
-use Rattle.std.proofs.Common.{◌≡◌, ◌≤◌, ◌<◌, ℕ, zero, suc, ◌+◌, ◌-◌, ◌==◌, ◌&&◌, ◌||◌, not, refl, ap, sym, ◌∙◌, Bool, true, false, cond, List, [], ◌∷◌, ◌++◌, map, length, replicate, subst, arith}
-use Rattle.std.specs.Prelude.{Option, Some, None, option_and_then, is_none, is_some, nat_lt, nat_le, sum_by, count_by, slice_index}
+use Rattle.std.proofs.Common.{◌≡◌, ℕ, ◌+◌, ◌-◌, ◌==◌, ◌&&◌, ◌||◌, not, refl, ap, sym, ◌∙◌, Bool, true, false, cond, List, [], ◌∷◌, ◌++◌, map, length, replicate, arith}
+use Rattle.std.specs.Prelude.{Option, Some, None, option_and_then, is_none, nat_lt, sum_by}
 use Rattle.std.specs.List.{find, list_all, list_any}
-use Rattle.std.proofs.lemmas.Bool.{not-true, eqb-true, eqb-false, eq-eqb, ne_eqb, or_left, or_right, or_parts}
+use Rattle.std.proofs.lemmas.Bool.{not-true, eqb-true, eq-eqb, ne_eqb, or_left, or_right, or_parts}
 use Rattle.vv_units.specs.Pairs.{after_set}
 use Rattle.vv_units.specs.declared.volume.TaskState.TheVariants.{Running, Cancelled}
 use Rattle.vv_units.specs.declared.volume.VolumeKind.TheVariants.{Plain, SnapshotOf, FastCloneOf}
@@ -10,7 +10,7 @@ use Rattle.vv_units.specs.declared.field.Field.TheVariants.{Vvol as in_vvol, Sna
 use Rattle.vv_flat.specs.Lists.{if_found, first_changed, put_before, first_removed, put_at, all_different}
 use Rattle.vv_flat.specs.State.{Durable, Volume, RunningClone, RunningCopy, Piece, Task, Job, Clone, Copy, volume_of, task_of, clone_of, copy_of}
 use Rattle.vv_flat.specs.Chunks.{touched_indexes, unmapped_in}
-use Rattle.vv_flat.specs.Space.{charge, allocated_count, allocating_pieces, allocating_for, is_running, is_clone, job_target, running_target}
+use Rattle.vv_flat.specs.Space.{charge, allocated_count, allocating_pieces, is_running, job_target, running_target}
 use Rattle.vv_flat.specs.Tasks.{is_busy, started, with_room, with_task, advanced, is_last, next_piece, turn_indexes, turned_indexes, job_indexes, cloned_volume, without_clone, without_copy, clone_goes_on, clone_ends, clone_turned, pieces_put, copy_goes_on, copy_ends, copy_turned, job_turned, turned, task_cancelled, cancelled, clone_of_volume, clone_started, with_clone, difference, copy_started, with_copy}
 use Rattle.vv_flat.specs.Bindings.{is_bound}
 use Rattle.vv_flat.specs.Rules.{running_targets, is_clone_kept}
@@ -19,7 +19,6 @@ use Rattle.vv_flat.specs.Profiles.{Misfit}
 use Rattle.vv_flat.specs.Refusals.{Accept, NotFound, ResourceInUse}
 use Rattle.vv_flat.specs.Changes.{Change, MakeContainer, MakeVolume, DeleteVolume, GrowVolume, SetMetadata, Snapshot, FastClone, Revert, Write, Unmap, SetEndpoints, Bind, Unbind, UnbindAll, StartClone, StartCopy, Turn, Cancel, judge, state_checks, stamps_of, allocated_of, home_of, effect, apply, apply_shape, changed_indexes, new_stamp, unmapped_count, with_volume, and_volume}
 use Rattle.vv_flat.proofs.Sums.{sum-put, sum-removed_found, sum-changed_found}
-use Rattle.vv_flat.proofs.MapLists.{map-same}
 use Rattle.vv_flat.proofs.Shares.{and_left, and_right, and_both, list_all-both}
 use Rattle.vv_flat.proofs.Verdicts.{passed_state, not_refused}
 use Rattle.vv_flat.proofs.Steps.{find-passes}
@@ -30,7 +29,7 @@ use Rattle.vv_flat.proofs.Kept.{Kept, kept}
 use Rattle.vv_flat.proofs.Charges.{is_aimed, Aimed, aimed, Ordered, other_number, unbusy, room_kept, room_new}
 use Rattle.vv_flat.proofs.KeepTasks.{ordered, new_task_number}
 use Rattle.vv_flat.proofs.NewEntries.{all-always}
-use Rattle.vv_laws.proofs.KeptNumbers.{some_of, chunks_are, clone_stands, clone_turn_exact, removed_sum}
+use Rattle.vv_laws.proofs.KeptNumbers.{some_of, chunks_are, removed_sum}
 use Rattle.vv_laws.proofs.AllocatedCounts.{same_sum, allocated-zeros, allocated-longer, unmaps_exact}
 use Rattle.vv_laws.proofs.AllocatedVolumes.{none_more, clone_count, written_count, task_number, target_stands, pieces_exact}
 use Rattle.vv_laws.specs.Counts.{unmaps_count, unmapping_pieces, at_last_turn, charged_at, uncharged_by_turns, charge_added, charge_taken}

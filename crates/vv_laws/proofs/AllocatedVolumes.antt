@@ -104,7 +104,7 @@ inside_step : (k n : ℕ) (ns : List ℕ) (b : Bool) → k < n → list_all (λ 
 inside_step k n ns true lt e = and_both (nat_lt k n) _ (lt-ltb k n lt) e
 inside_step k n ns false lt e = e
 
-indexes_inside : (test : ℕ → ℕ → Bool) (k : ℕ) (xs : List ℕ) → list_all (λ i. nat_lt i (k + length xs)) (indexes_from test k xs) ≡ true
+pub indexes_inside : (test : ℕ → ℕ → Bool) (k : ℕ) (xs : List ℕ) → list_all (λ i. nat_lt i (k + length xs)) (indexes_from test k xs) ≡ true
 indexes_inside test k [] = refl
 indexes_inside test k (x ∷ xs) =
     let n : (k + 1) + length xs ≡ k + length (x ∷ xs) = omega arith in
@@ -263,23 +263,27 @@ found_same : {A : Type 0} (d : Durable ℕ) (m : ℕ) (o : Option A) (h : A → 
 found_same d m None h there = refl
 found_same d m (Some x) h there = there x
 
--- what an accepted write allocates in its volume
+-- an accepted write touches chunks of its volume,
+pub write_within : (d : Durable ℕ) (misfit : Option Misfit) (n first blocks : ℕ) → judge misfit d (Write n first blocks) ≡ Accept
+    → list_all (λ i. nat_lt i (length (stamps_of d n))) (touched_indexes d.geometry.chunk_blocks first blocks) ≡ true
+unfolding state_checks
+write_within d misfit n first blocks e =
+    let B : ℕ = d.geometry.chunk_blocks in
+    let size : ℕ = volume_blocks B (stamps_of d n) in
+    let parts = or_parts (nat_le size first) (nat_lt size (first + blocks)) (not_refused _ OutOfRange (passed_state misfit d (Write n first blocks) e 1)) in
+    touched_inside B (length (stamps_of d n)) first blocks (some_blocks B d.geometry.chunk_size) (leb-false size first parts.0) (ltb-false size (first + blocks) parts.1)
+
+-- and allocates the unmapped ones of them
 pub written_count : (d : Durable ℕ) (misfit : Option Misfit) (n first blocks : ℕ) → judge misfit d (Write n first blocks) ≡ Accept
     → (v : Volume ℕ) → volume_of d n ≡ Some v
     → allocated_count (put_at (touched_indexes d.geometry.chunk_blocks first blocks) (map (λ _. d.lsn + 1) (touched_indexes d.geometry.chunk_blocks first blocks)) v.chunks)
     ≡ allocated_count v.chunks + unmapped_count (stamps_of d n) (touched_indexes d.geometry.chunk_blocks first blocks)
-unfolding state_checks
 written_count d misfit n first blocks e v found =
     let B : ℕ = d.geometry.chunk_blocks in
     let is : List ℕ = touched_indexes B first blocks in
-    let size : ℕ = volume_blocks B (stamps_of d n) in
-    let parts = or_parts (nat_le size first) (nat_lt size (first + blocks)) (not_refused _ OutOfRange (passed_state misfit d (Write n first blocks) e 1)) in
-    let start : first < size = leb-false size first parts.0 in
-    let end : first + blocks ≤ size = ltb-false size (first + blocks) parts.1 in
     let same : stamps_of d n ≡ v.chunks = chunks_are d n v found in
-    let sizes : size ≡ length v.chunks * B = ap (λ xs. length xs * B) same in
     let put = one_stamp is (d.lsn + 1) v.chunks (ne_eqb (d.lsn + 1) 0 (λ f. omega arith)) (touched_rise B first blocks)
-    (touched_inside B (length v.chunks) first blocks (some_blocks B d.geometry.chunk_size) (omega (arith, start, sizes)) (omega (arith, end, sizes))) in
+    (ap (λ xs. list_all (λ i. nat_lt i (length xs)) is) (sym same) ∙ write_within d misfit n first blocks e) in
     let u : unmapped_count (stamps_of d n) is ≡ unmapped_count v.chunks is = ap (λ xs. unmapped_count xs is) same in
     omega (arith, put, u)
 
@@ -358,7 +362,7 @@ module _ (d : Durable ℕ) (rules : Kept d) (m : ℕ) where
           ∙ ap (λ k. allocated_of d m + cond (m == t.number) k 0) total
       go false last = refl
 
-  copy_kept : (t : Task) (c : RunningCopy ℕ) → task_of d t.number ≡ Some t → copy_of d t.number ≡ Some c → is_copy_kept d c t ≡ true
+  pub copy_kept : (t : Task) (c : RunningCopy ℕ) → task_of d t.number ≡ Some t → copy_of d t.number ≡ Some c → is_copy_kept d c t ≡ true
   unfolding copies_rule
   copy_kept t c found e =
       let all : if_found (task_of d c.number) (is_copy_kept d c) false ≡ true =
@@ -368,7 +372,7 @@ module _ (d : Durable ℕ) (rules : Kept d) (m : ℕ) where
       let task : task_of d c.number ≡ Some t = ap (λ k. task_of d k) number ∙ found in
       sym (ap (λ o. if_found o (is_copy_kept d c) false) task) ∙ all
 
-  target_kept : (t : Task) (c : RunningCopy ℕ) (target : ℕ) → task_of d t.number ≡ Some t → copy_of d t.number ≡ Some c → job_target t.job ≡ Some target
+  pub target_kept : (t : Task) (c : RunningCopy ℕ) (target : ℕ) → task_of d t.number ≡ Some t → copy_of d t.number ≡ Some c → job_target t.job ≡ Some target
       → if_found (volume_of d target) (λ (v : Volume ℕ). list_all (λ i. nat_lt i (length v.chunks)) (map (λ (p : Piece ℕ). p.index) c.pieces)) false ≡ true
   target_kept t c target found e aims =
       and_right (not (is_snapshot d target)) _

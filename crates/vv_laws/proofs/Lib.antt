@@ -17,4 +17,6 @@ pub mod KeptNumbers
 pub mod AllocatedCounts
 pub mod AllocatedVolumes
 pub mod ChargedCounts
+pub mod ListedPieces
+pub mod UsedCounts
 pub mod FilledArrays

@@ -1,13 +1,13 @@
 -- What the entries of lists tell of the entries that were there before an edit, and of those that were put in; and how many
 -- numbers pass a test before and after.
-use Rattle.std.proofs.Common.{◌≡◌, ◌≤◌, ◌<◌, ℕ, zero, suc, ◌+◌, ◌==◌, ◌&&◌, ◌||◌, not, refl, ap, sym, ◌∙◌, Bool, true, false, cond, List, [], ◌∷◌, ◌++◌, map, length, set, arith, length-set}
-use Rattle.std.specs.Prelude.{Option, Some, None, nat_lt, count_by}
+use Rattle.std.proofs.Common.{◌≡◌, ◌≤◌, ◌<◌, ℕ, zero, suc, ◌+◌, ◌==◌, ◌&&◌, ◌||◌, not, refl, ap, sym, ◌∙◌, Bool, true, false, cond, List, [], ◌∷◌, ◌++◌, length, set, arith, length-set}
+use Rattle.std.specs.Prelude.{Some, nat_lt, count_by}
 use Rattle.std.specs.List.{find, filter, list_all, list_any}
 use Rattle.std.proofs.lemmas.List.Sums.{sum_by-cons}
 use Rattle.std.proofs.lemmas.Bool.{not-true, ltb-true, eqb-true, eqb-false, eq-eqb, ne_eqb, or_left, or_right}
 use Rattle.vv_flat.specs.Lists.{first_changed, put_before, first_removed, put_at, mapped_from, numbers_from, all_different, all_above, all_rising}
 use Rattle.vv_flat.specs.State.{Piece}
-use Rattle.vv_flat.specs.Chunks.{Entry, is_in_ranges, placed_entries}
+use Rattle.vv_flat.specs.Chunks.{is_in_ranges, placed_entries}
 use Rattle.vv_flat.specs.NamedPlaces.{is_named}
 use Rattle.vv_flat.proofs.Shares.{and_left, and_right, and_both, list_all-follows}
 use Rattle.vv_flat.proofs.NewEntries.{above_each, above_rises}

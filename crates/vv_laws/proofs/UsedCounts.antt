@@ -1,26 +1,26 @@
 -- How many places of the pool are used after a record that fits: one more for each new place, and one less for each place
 -- that only entries name which are gone.
-use Rattle.std.proofs.Common.{◌≡◌, ◌≤◌, ◌<◌, ℕ, zero, suc, ◌+◌, ◌-◌, ◌==◌, ◌&&◌, ◌||◌, not, refl, ap, sym, ◌∙◌, Bool, true, false, cond, List, [], ◌∷◌, ◌++◌, map, length, replicate, take, drop, set, arith}
+use Rattle.std.proofs.Common.{◌≡◌, ℕ, ◌+◌, ◌-◌, ◌==◌, ◌&&◌, ◌||◌, not, refl, ap, sym, ◌∙◌, Bool, true, false, cond, List, [], ◌∷◌, ◌++◌, map, length, replicate, drop, arith}
 use Rattle.std.proofs.lemmas.List.{length-map}
-use Rattle.std.specs.Prelude.{Option, Some, None, is_none, is_some, nat_lt, nat_le, count_by}
-use Rattle.std.specs.List.{find, filter, list_all, list_any}
-use Rattle.std.proofs.lemmas.List.Folds.{list_all-append, list_all-map}
-use Rattle.std.proofs.lemmas.Bool.{not-true, eqb-true, eq-eqb, or_parts}
+use Rattle.std.specs.Prelude.{Option, Some, None, is_none, nat_lt, count_by}
+use Rattle.std.specs.List.{filter, list_all, list_any}
+use Rattle.std.proofs.lemmas.List.Folds.{list_all-append}
+use Rattle.std.proofs.lemmas.Bool.{eqb-true}
 use Rattle.vv_units.specs.Pairs.{after_set}
 use Rattle.vv_units.specs.declared.geometry.Geometry.{Geometry}
 use Rattle.vv_units.specs.declared.volume.VolumeKind.TheVariants.{Plain, SnapshotOf, FastCloneOf}
 use Rattle.vv_units.specs.declared.field.Field.TheVariants.{Vvol as in_vvol}
-use Rattle.vv_flat.specs.Lists.{if_found, first_changed, put_before, first_removed, put_at, numbers_from, all_different, all_rising}
-use Rattle.vv_flat.specs.State.{Durable, Volume, RunningClone, RunningCopy, Piece, Task, Job, Clone, Copy, volume_of, task_of, clone_of, copy_of, indexed, all_pieces, map_clone, map_copy, map_volume, map_piece}
+use Rattle.vv_flat.specs.Lists.{if_found, put_at, numbers_from, all_different, all_rising}
+use Rattle.vv_flat.specs.State.{Durable, Volume, RunningClone, RunningCopy, Piece, Task, Job, Clone, Copy, volume_of, task_of, clone_of, copy_of, indexed, all_pieces, map_clone, map_copy, map_piece}
 use Rattle.vv_flat.specs.Chunks.{Entry, unmapped_entry, shape_of_tables, placed_entries, touched_indexes, is_in_ranges, unmapped_in}
-use Rattle.vv_flat.specs.Space.{used, is_running, is_clone, job_target}
+use Rattle.vv_flat.specs.Space.{used, is_running, job_target}
 use Rattle.vv_flat.specs.Bits.{allocated_indexes}
 use Rattle.vv_flat.specs.Sharing.{shares, names_place, place_count}
 use Rattle.vv_flat.specs.NamedPlaces.{is_named, named_count}
-use Rattle.vv_flat.specs.Tasks.{with_task, advanced, is_last, next_piece, turn_indexes, turned_indexes, job_indexes, cloned_volume, without_clone, without_copy, clone_goes_on, clone_ends, clone_turned, pieces_put, copy_goes_on, copy_ends, copy_turned, job_turned, turned, cancelled, clone_of_volume, clone_started, with_clone, difference, copy_started, with_copy}
-use Rattle.vv_flat.specs.Rules.{is_clone_kept, is_copy_kept}
+use Rattle.vv_flat.specs.Tasks.{is_last, next_piece, turn_indexes, turned_indexes, job_indexes, cloned_volume, clone_goes_on, clone_ends, clone_turned, pieces_put, copy_goes_on, copy_ends, copy_turned, job_turned, turned, cancelled, clone_of_volume, clone_started, with_clone, difference, copy_started, with_copy}
+use Rattle.vv_flat.specs.Rules.{is_clone_kept}
 use Rattle.vv_flat.specs.Refusals.{Accept, NotFound}
-use Rattle.vv_flat.specs.Changes.{Change, MakeContainer, MakeVolume, DeleteVolume, GrowVolume, SetMetadata, Snapshot, FastClone, Revert, Write, Unmap, SetEndpoints, Bind, Unbind, UnbindAll, StartClone, StartCopy, Turn, Cancel, judge, state_checks, stamps_of, effect, apply, changed_indexes, new_stamp, with_volume, and_volume}
+use Rattle.vv_flat.specs.Changes.{Change, MakeContainer, MakeVolume, DeleteVolume, GrowVolume, SetMetadata, Snapshot, FastClone, Revert, Write, Unmap, SetEndpoints, Bind, Unbind, UnbindAll, StartClone, StartCopy, Turn, Cancel, judge, state_checks, effect, apply, changed_indexes, new_stamp, with_volume, and_volume}
 use Rattle.vv_flat.specs.Replay.{fits, replayed, is_fresh}
 use Rattle.vv_flat.specs.WellFormed.{is_well_formed}
 use Rattle.vv_flat.proofs.MapLists.{map-after}
@@ -36,9 +36,9 @@ use Rattle.vv_flat.proofs.KeepTasks.{none_any, any_none}
 use Rattle.vv_flat.proofs.KeepRules.{fits_accepted}
 use Rattle.vv_flat.proofs.KeepSharing.{sharing_stays}
 use Rattle.vv_flat.proofs.NamedPlaces.{named-counted, used_places}
-use Rattle.vv_flat.proofs.NewEntries.{all-always, all-take, all-drop, rising-take, rising-drop, touched_rise, indexes_rise}
+use Rattle.vv_flat.proofs.NewEntries.{all-take, all-drop, rising-take, rising-drop, touched_rise, indexes_rise}
 use Rattle.vv_laws.proofs.WellFormed.{well_formed_sharing, shape_rules}
-use Rattle.vv_laws.proofs.Standing.{pieces_at, AllPass, stays_right}
+use Rattle.vv_laws.proofs.Standing.{pieces_at, stays_right}
 use Rattle.vv_laws.proofs.NewStamps.{Clones, clones_of, piece_kinds, pieces_pass, pass_pieces}
 use Rattle.vv_laws.proofs.AllocatedVolumes.{write_within, indexes_inside, copy_kept, target_kept}
 use Rattle.vv_laws.proofs.ListedPieces.{covered, from_put, from_removed, from_changed, at_changed, front, put_or, values_stay, unmapped_or, count_moves, news_named, places_counted}

@@ -133,6 +133,17 @@ zero_at r k (x ∷ xs) e (suc j) f =
     rest true g = and_right (r k) _ g
     rest false g = g
 
+-- What the rule on running clones says of one.
+
+pub kept_copied : (c : RunningClone ℕ) (t : Task) → is_clone_kept c t ≡ true → allocated_indexes c.target ≡ take t.done (allocated_indexes c.image)
+kept_copied c t e = (bytes_eq-Decides (allocated_indexes c.target) (take t.done (allocated_indexes c.image))).0 (and_right _ _ (and_left _ _ e))
+
+pub kept_total : (c : RunningClone ℕ) (t : Task) → is_clone_kept c t ≡ true → t.total ≡ allocated_count c.image
+kept_total c t e = eqb-true t.total (allocated_count c.image) (and_left _ _ (and_left _ _ (and_left _ _ e)))
+
+pub kept_long : (c : RunningClone ℕ) (t : Task) → is_clone_kept c t ≡ true → length c.target ≡ length c.image
+kept_long c t e = eqb-true (length c.target) (length c.image) (and_right _ _ (and_left _ _ (and_left _ _ e)))
+
 -- After its last turn a clone's target has as many allocated chunks as its task copied.
 pub clone_count : (c : RunningClone ℕ) (t : Task) (n : ℕ) → is_clone_kept c t ≡ true → (n == 0) ≡ false
     → is_last t (length (turn_indexes (map (λ s. s) c.image) t.done)) ≡ true
@@ -141,10 +152,9 @@ clone_count c t n keeps some last =
     let A : List ℕ = allocated_indexes c.image in
     let is : List ℕ = turn_indexes (map (λ s. s) c.image) t.done in
     let same : is ≡ take 16 (drop t.done A) = ap (λ xs. turn_indexes xs t.done) (map-same (λ s. s) (λ s. refl) c.image) in
-    let copied : allocated_indexes c.target ≡ take t.done A =
-    (bytes_eq-Decides (allocated_indexes c.target) (take t.done A)).0 (and_right _ _ (and_left _ _ keeps)) in
-    let total : t.total ≡ allocated_count c.image = eqb-true t.total (allocated_count c.image) (and_left _ _ (and_left _ _ (and_left _ _ keeps))) in
-    let long : length c.target ≡ length c.image = eqb-true (length c.target) (length c.image) (and_right _ _ (and_left _ _ (and_left _ _ keeps))) in
+    let copied : allocated_indexes c.target ≡ take t.done A = kept_copied c t keeps in
+    let total : t.total ≡ allocated_count c.image = kept_total c t keeps in
+    let long : length c.target ≡ length c.image = kept_long c t keeps in
     let rises : all_rising A ≡ true = indexes_rise (λ i s. not (s == 0)) 0 c.image in
     let apart : list_all (λ i. list_all (λ j. not (j == i)) (take t.done A)) (drop t.done A) ≡ true =
     all-swap (λ j i. not (j == i)) (take t.done A) (drop t.done A) (first_apart t.done A rises) in
@@ -154,11 +164,11 @@ clone_count c t n keeps some last =
     eq-eqb (slice_index c.target i) 0
     (zero_at (λ j. not (j == i)) 0 c.target (ap (list_all (λ j. not (j == i))) copied ∙ e) i
     (ap (λ k. not (k == i)) front ∙ ap not (eq-eqb i i refl)))) (take 16 (drop t.done A))
-    (all-take _ 16 (drop t.done A) apart) in
+    (all-take (λ i. list_all (λ j. not (j == i)) (take t.done A)) 16 (drop t.done A) apart) in
     let counted : unmapped_count c.target is ≡ length is =
     all_counted (λ i. slice_index c.target i == 0) is (ap (list_all (λ i. slice_index c.target i == 0)) same ∙ zeros) in
     let within : list_all (λ i. nat_lt i (length c.target)) (take 16 (drop t.done A)) ≡ true =
-    all-take _ 16 (drop t.done A) (all-later (λ i. nat_lt i (length c.target)) t.done A
+    all-take (λ i. nat_lt i (length c.target)) 16 (drop t.done A) (all-later (λ i. nat_lt i (length c.target)) t.done A
     (ap (λ m. list_all (λ i. nat_lt i m) A) (long ∙ (let z : length c.image ≡ 0 + length c.image = omega arith in z)) ∙ indexes_inside (λ i s. not (s == 0)) 0 c.image)) in
     let put : allocated_count (put_at is (map (λ _. n) is) c.target) ≡ allocated_count c.target + unmapped_count c.target is =
     one_stamp is n c.target some (ap all_rising same ∙ rising-take 16 (drop t.done A) (rising-drop t.done A rises))
@@ -431,7 +441,9 @@ module _ (d : Durable ℕ) (rules : Kept d) (m : ℕ) where
       let logged : (is_logged d.lsn t.number && (not (is_running t) || is_source_logged d.lsn t.job)) ≡ true =
       all-found (λ (t : Task). is_logged d.lsn t.number && (not (is_running t) || is_source_logged d.lsn t.job)) (λ (u : Task). u.number == t.number) t d.tasks
       (and_right _ _ (and_left _ _ (and_left _ _ rules.numbers))) found in
-      let least : 1 ≤ t.number = leb-true 1 t.number (and_left (nat_le 1 t.number) (nat_le t.number d.lsn) (and_left (is_logged d.lsn t.number) _ logged)) in
+      let least : 1 ≤ t.number =
+      leb-true 1 t.number
+      (and_left (nat_le 1 t.number) (nat_le t.number d.lsn) (and_left (is_logged d.lsn t.number) (not (is_running t) || is_source_logged d.lsn t.job) logged)) in
       ne_eqb t.number 0 (λ f. omega arith)
 
   job_allocates : (t : Task) (n : ℕ) → (n == 0) ≡ false → task_of d t.number ≡ Some t → is_running t ≡ true → (job : Job) → t.job ≡ job

@@ -31,7 +31,7 @@ use Rattle.vv_flat.proofs.KeepTasks.{ordered, new_task_number}
 use Rattle.vv_flat.proofs.NewEntries.{all-always}
 use Rattle.vv_laws.proofs.KeptNumbers.{some_of, chunks_are, removed_sum}
 use Rattle.vv_laws.proofs.AllocatedCounts.{same_sum, allocated-zeros, allocated-longer, unmaps_exact}
-use Rattle.vv_laws.proofs.AllocatedVolumes.{none_more, clone_count, written_count, task_number, target_stands, pieces_exact}
+use Rattle.vv_laws.proofs.AllocatedVolumes.{none_more, kept_total, clone_count, written_count, task_number, target_stands, pieces_exact}
 use Rattle.vv_laws.specs.Counts.{unmaps_count, unmapping_pieces, at_last_turn, charged_at, uncharged_by_turns, charge_added, charge_taken}
 
 -- The target of a running task is among the targets.
@@ -446,7 +446,7 @@ module _ (d : Durable ℕ) (rules : Kept d) (k : ℕ) where
           (clone_goes_on d t (length (turn_indexes (map (λ s. s) c.image) t.done)) (put_at (turn_indexes (map (λ s. s) c.image) t.done) (map (λ _. n) (turn_indexes (map (λ s. s) c.image) t.done)) c.target))) k 0 0
       go true last =
           let keeps : is_clone_kept c t ≡ true = is_kept d t c rules.clones found e in
-          let total : t.total ≡ allocated_count c.image = eqb-true t.total (allocated_count c.image) (and_left _ _ (and_left _ _ (and_left _ _ keeps))) in
+          let total : t.total ≡ allocated_count c.image = kept_total c t keeps in
           clone_ends_charges t (length (turn_indexes (map (λ s. s) c.image) t.done)) source c
           (put_at (turn_indexes (map (λ s. s) c.image) t.done) (map (λ _. n) (turn_indexes (map (λ s. s) c.image) t.done)) c.target) found e
           (clone_count c t n keeps some last ∙ total)

@@ -19,4 +19,5 @@ pub mod AllocatedVolumes
 pub mod ChargedCounts
 pub mod ListedPieces
 pub mod UsedCounts
+pub mod PlaceCounts
 pub mod FilledArrays

@@ -79,7 +79,7 @@ module _ {A : Type 0} (r p : A → Bool) where
   at_changed g y (x ∷ xs) e found = at_step g x y xs (p x) e found (λ f h. at_changed g y xs f h)
 
 -- no lower number is among rising ones
-none_below : (i : ℕ) (is : List ℕ) → all_above i is ≡ true → list_any (λ k. k == i) is ≡ false
+pub none_below : (i : ℕ) (is : List ℕ) → all_above i is ≡ true → list_any (λ k. k == i) is ≡ false
 none_below i is e =
     any_none (λ k. k == i) is
     (list_all-follows (nat_lt i) (λ k. not (k == i))

@@ -40,16 +40,16 @@ use Rattle.vv_flat.proofs.NewEntries.{all-take, all-drop, rising-take, rising-dr
 use Rattle.vv_laws.proofs.WellFormed.{well_formed_sharing, shape_rules}
 use Rattle.vv_laws.proofs.Standing.{pieces_at, stays_right}
 use Rattle.vv_laws.proofs.NewStamps.{Clones, clones_of, piece_kinds, pieces_pass, pass_pieces}
-use Rattle.vv_laws.proofs.AllocatedVolumes.{write_within, indexes_inside, copy_kept, target_kept}
+use Rattle.vv_laws.proofs.AllocatedVolumes.{kept_long, write_within, indexes_inside, copy_kept, target_kept}
 use Rattle.vv_laws.proofs.ListedPieces.{covered, from_put, from_removed, from_changed, at_changed, front, put_or, values_stay, unmapped_or, count_moves, news_named, places_counted}
 use Rattle.vv_laws.specs.GoneEntries.{listed, those_at, gone_of_clone, gone_of_copy, gone_of_job, entries_gone, freed_count}
 
 -- The indexes of a clone's turn rise, and are inside the image.
-turn_rises : (image : List ℕ) (done : ℕ) → all_rising (turn_indexes image done) ≡ true
+pub turn_rises : (image : List ℕ) (done : ℕ) → all_rising (turn_indexes image done) ≡ true
 turn_rises image done =
     rising-take 16 (drop done (allocated_indexes image)) (rising-drop done (allocated_indexes image) (indexes_rise (λ i s. not (s == 0)) 0 image))
 
-turn_within : (image : List ℕ) (done : ℕ) → list_all (λ i. nat_lt i (length image)) (turn_indexes image done) ≡ true
+pub turn_within : (image : List ℕ) (done : ℕ) → list_all (λ i. nat_lt i (length image)) (turn_indexes image done) ≡ true
 turn_within image done =
     let z : length image ≡ 0 + length image = omega arith in
     all-take (λ i. nat_lt i (length image)) 16 (drop done (allocated_indexes image))
@@ -63,8 +63,65 @@ pieces_again (p ∷ ps) = ap (λ qs. p ∷ qs) (pieces_again ps)
 same_found : {A : Type 0} (x y : A) (o : Option A) → o ≡ Some x → o ≡ Some y → x ≡ y
 same_found {A = A} x y o e f = let g : ◌≡◌ {A = Option A} (Some x) (Some y) = sym e ∙ f in cc
 
-target_long : (c : RunningClone ℕ) (k : Task) → is_clone_kept c k ≡ true → length c.target ≡ length c.image
-target_long c k e = eqb-true (length c.target) (length c.image) (and_right _ _ (and_left _ _ (and_left _ _ e)))
+-- What the shape of tables tells of a volume and of a running copy.
+
+none_is : {A : Type 0} (o : Option A) → if_found o (λ _. false) true ≡ is_none o
+none_is None = refl
+none_is (Some x) = refl
+
+pub stands_too : (d : Durable Entry) (n : ℕ) → is_none (volume_of (shape_of_tables d) n) ≡ false → is_none (volume_of d n) ≡ false
+stands_too d n e =
+    sym (none_is (volume_of d n))
+    ∙ map-volume_of (λ (x : Entry). x.stamp) d n (λ (b : Bool). b) (λ v. false) (λ v. false) true true (λ v. refl) refl
+    ∙ none_is (volume_of (shape_of_tables d) n) ∙ e
+
+pub record Aims (d : Durable Entry) (target : ℕ) (c : RunningCopy Entry) : Type 0 where
+  pub volume : Volume Entry
+  pub stands : volume_of d target ≡ Some volume
+  pub rise : all_rising (map (λ (p : Piece Entry). p.index) c.pieces) ≡ true
+  pub within : list_all (λ i. nat_lt i (length volume.chunks)) (map (λ (p : Piece Entry). p.index) c.pieces) ≡ true
+
+module _ (d : Durable Entry) where
+  some_same : (o : Option (RunningCopy ℕ)) → if_found o (λ c. Some c) None ≡ o
+  some_same None = refl
+  some_same (Some c) = refl
+
+  copy_told : (n : ℕ) (c : RunningCopy Entry) → copy_of d n ≡ Some c → copy_of (shape_of_tables d) n ≡ Some (map_copy (λ (x : Entry). x.stamp) c)
+  copy_told n c e =
+      sym (some_same (copy_of (shape_of_tables d) n))
+      ∙ sym (map-copy_of (λ (x : Entry). x.stamp) d n (λ (o : Option (RunningCopy ℕ)). o)
+      (λ c. Some (map_copy (λ (x : Entry). x.stamp) c)) (λ c. Some c) None None (λ c. refl) refl)
+      ∙ ap (λ (o : Option (RunningCopy Entry)). if_found o (λ c. Some (map_copy (λ (x : Entry). x.stamp) c)) None) e
+
+  pub copy_aims : Kept (shape_of_tables d) → (k : Task) (target : ℕ) (c : RunningCopy Entry) → task_of d k.number ≡ Some k → copy_of d k.number ≡ Some c
+      → job_target k.job ≡ Some target → Aims d target c
+  copy_aims rules k target c found e aims =
+      let same : map (λ (p : Piece ℕ). p.index) (map (map_piece (λ (x : Entry). x.stamp)) c.pieces) ≡ map (λ (p : Piece Entry). p.index) c.pieces =
+      map-after (map_piece (λ (x : Entry). x.stamp)) (λ (p : Piece ℕ). p.index) (λ (p : Piece Entry). p.index) (λ p. refl) c.pieces in
+      let rise : all_rising (map (λ (p : Piece Entry). p.index) c.pieces) ≡ true =
+      ap all_rising (sym same)
+      ∙ and_right _ _ (and_left _ _ (copy_kept (shape_of_tables d) rules 0 k (map_copy (λ (x : Entry). x.stamp) c) found (copy_told k.number c e))) in
+      let inside : if_found (volume_of d target) (λ (v : Volume Entry). list_all (λ i. nat_lt i (length (map (λ (x : Entry). x.stamp) v.chunks)))
+      (map (λ (p : Piece ℕ). p.index) (map (map_piece (λ (x : Entry). x.stamp)) c.pieces))) false ≡ true =
+      map-volume_of (λ (x : Entry). x.stamp) d target (λ (b : Bool). b)
+      (λ (v : Volume Entry). list_all (λ i. nat_lt i (length (map (λ (x : Entry). x.stamp) v.chunks))) (map (λ (p : Piece ℕ). p.index) (map (map_piece (λ (x : Entry). x.stamp)) c.pieces)))
+      (λ (v : Volume ℕ). list_all (λ i. nat_lt i (length v.chunks)) (map (λ (p : Piece ℕ). p.index) (map (map_piece (λ (x : Entry). x.stamp)) c.pieces))) false false (λ v. refl) refl
+      ∙ target_kept (shape_of_tables d) rules 0 k (map_copy (λ (x : Entry). x.stamp) c) target found (copy_told k.number c e) aims in
+      of_volume same rise (volume_of d target) refl inside
+    where
+      of_volume : map (λ (p : Piece ℕ). p.index) (map (map_piece (λ (x : Entry). x.stamp)) c.pieces) ≡ map (λ (p : Piece Entry). p.index) c.pieces
+          → all_rising (map (λ (p : Piece Entry). p.index) c.pieces) ≡ true → (o : Option (Volume Entry)) → volume_of d target ≡ o
+          → if_found o (λ (v : Volume Entry). list_all (λ i. nat_lt i (length (map (λ (x : Entry). x.stamp) v.chunks)))
+          (map (λ (p : Piece ℕ). p.index) (map (map_piece (λ (x : Entry). x.stamp)) c.pieces))) false ≡ true
+          → Aims d target c
+      of_volume same rise None at g = cc
+      of_volume same rise (Some w) at g = record {
+        volume = w;
+        stands = at;
+        rise = rise;
+        within = ap (λ n. list_all (λ i. nat_lt i n) (map (λ (p : Piece Entry). p.index) c.pieces)) (sym (length-map w.chunks (λ (x : Entry). x.stamp)))
+            ∙ ap (list_all (λ i. nat_lt i (length (map (λ (x : Entry). x.stamp) w.chunks)))) (sym same) ∙ g;
+      }
 
 -- A test of all entries, kind by kind of list.
 record Kinds (t : Piece Entry → Bool) (d : Durable Entry) : Type 0 where
@@ -133,7 +190,7 @@ module _ (t : Piece Entry → Bool) (d : Durable Entry) where
       within : list_all (λ i. nat_lt i (length c.target)) (turn_indexes (map (λ (e : Entry). e.stamp) c.image) k.done) ≡ true
       within =
           let long : length (map (λ (e : Entry). e.stamp) c.target) ≡ length (map (λ (e : Entry). e.stamp) c.image) =
-          target_long (map_clone (λ (e : Entry). e.stamp) c) k keeps in
+          kept_long (map_clone (λ (e : Entry). e.stamp) c) k keeps in
           ap (λ n. list_all (λ i. nat_lt i n) (turn_indexes (map (λ (e : Entry). e.stamp) c.image) k.done))
           (sym (length-map c.target (λ (e : Entry). e.stamp)) ∙ long)
           ∙ turn_within (map (λ (e : Entry). e.stamp) c.image) k.done
@@ -236,58 +293,12 @@ module _ (t : Piece Entry → Bool) (d : Durable Entry) where
   same_back e k = record { before = k; new = refl }
 
   module _ (rules : Kept (shape_of_tables d)) (clones : Clones Entry (λ (e : Entry). e.stamp) d) where
-    abbrev told : Durable ℕ
-    told = shape_of_tables d
-
-    some_same : (o : Option (RunningCopy ℕ)) → if_found o (λ c. Some c) None ≡ o
-    some_same None = refl
-    some_same (Some c) = refl
-
-    copy_told : (n : ℕ) (c : RunningCopy Entry) → copy_of d n ≡ Some c → copy_of (shape_of_tables d) n ≡ Some (map_copy (λ (x : Entry). x.stamp) c)
-    copy_told n c e =
-        sym (some_same (copy_of (shape_of_tables d) n))
-        ∙ sym (map-copy_of (λ (x : Entry). x.stamp) d n (λ (o : Option (RunningCopy ℕ)). o)
-        (λ c. Some (map_copy (λ (x : Entry). x.stamp) c)) (λ c. Some c) None None (λ c. refl) refl)
-        ∙ ap (λ (o : Option (RunningCopy Entry)). if_found o (λ c. Some (map_copy (λ (x : Entry). x.stamp) c)) None) e
-
-    none_is : {A : Type 0} (o : Option A) → if_found o (λ _. false) true ≡ is_none o
-    none_is None = refl
-    none_is (Some x) = refl
-
-    stands_too : (n : ℕ) → is_none (volume_of (shape_of_tables d) n) ≡ false → is_none (volume_of d n) ≡ false
-    stands_too n e =
-        sym (none_is (volume_of d n))
-        ∙ map-volume_of (λ (x : Entry). x.stamp) d n (λ (b : Bool). b) (λ v. false) (λ v. false) true true (λ v. refl) refl
-        ∙ none_is (volume_of (shape_of_tables d) n) ∙ e
-
     copy_turn_back : (k : Task) (target : ℕ) → task_of d k.number ≡ Some k → job_target k.job ≡ Some target
         → (o : Option (RunningCopy Entry)) → copy_of d k.number ≡ o → Back t d (if_found o (copy_turned d k target) d) [] (if_found o (gone_of_copy d k target) [])
     copy_turn_back k target found aims None e = λ kinds gone. record { before = kinds; new = refl }
     copy_turn_back k target found aims (Some c) e =
-        let f : Entry → ℕ = λ (x : Entry). x.stamp in
-        let same : map (λ (p : Piece ℕ). p.index) (map (map_piece (λ (x : Entry). x.stamp)) c.pieces) ≡ map (λ (p : Piece Entry). p.index) c.pieces =
-        map-after (map_piece (λ (x : Entry). x.stamp)) (λ (p : Piece ℕ). p.index) (λ (p : Piece Entry). p.index) (λ p. refl) c.pieces in
-        let rise : all_rising (map (λ (p : Piece Entry). p.index) c.pieces) ≡ true =
-        ap all_rising (sym same)
-        ∙ and_right _ _ (and_left _ _ (copy_kept (shape_of_tables d) rules 0 k (map_copy (λ (x : Entry). x.stamp) c) found (copy_told k.number c e))) in
-        let inside : if_found (volume_of d target) (λ (v : Volume Entry). list_all (λ i. nat_lt i (length (map (λ (x : Entry). x.stamp) v.chunks)))
-        (map (λ (p : Piece ℕ). p.index) (map (map_piece (λ (x : Entry). x.stamp)) c.pieces))) false ≡ true =
-        map-volume_of (λ (x : Entry). x.stamp) d target (λ (b : Bool). b)
-        (λ (v : Volume Entry). list_all (λ i. nat_lt i (length (map (λ (x : Entry). x.stamp) v.chunks))) (map (λ (p : Piece ℕ). p.index) (map (map_piece (λ (x : Entry). x.stamp)) c.pieces)))
-        (λ (v : Volume ℕ). list_all (λ i. nat_lt i (length v.chunks)) (map (λ (p : Piece ℕ). p.index) (map (map_piece (λ (x : Entry). x.stamp)) c.pieces))) false false (λ v. refl) refl
-        ∙ target_kept (shape_of_tables d) rules 0 k (map_copy (λ (x : Entry). x.stamp) c) target found (copy_told k.number c e) aims in
-        of_volume same rise (volume_of d target) refl inside
-      where
-        of_volume : map (λ (p : Piece ℕ). p.index) (map (map_piece (λ (x : Entry). x.stamp)) c.pieces) ≡ map (λ (p : Piece Entry). p.index) c.pieces
-            → all_rising (map (λ (p : Piece Entry). p.index) c.pieces) ≡ true → (o : Option (Volume Entry)) → volume_of d target ≡ o
-            → if_found o (λ (v : Volume Entry). list_all (λ i. nat_lt i (length (map (λ (x : Entry). x.stamp) v.chunks)))
-            (map (λ (p : Piece ℕ). p.index) (map (map_piece (λ (x : Entry). x.stamp)) c.pieces))) false ≡ true
-            → Back t d (copy_turned d k target c) [] (gone_of_copy d k target c)
-        of_volume same rise None at g = cc
-        of_volume same rise (Some w) at g =
-            copy_back k target c e w at rise
-            (ap (λ n. list_all (λ i. nat_lt i n) (map (λ (p : Piece Entry). p.index) c.pieces)) (sym (length-map w.chunks (λ (x : Entry). x.stamp)))
-            ∙ ap (list_all (λ i. nat_lt i (length (map (λ (x : Entry). x.stamp) w.chunks)))) (sym same) ∙ g)
+        let a : Aims d target c = copy_aims d rules k target c found e aims in
+        copy_back k target c e a.volume a.stands a.rise a.within
 
     job_back : (k : Task) (values : List Entry) → task_of d k.number ≡ Some k → (job : Job) → k.job ≡ job
         → Back t d (job_turned (λ (e : Entry). e.stamp) values d k job) (pieces_at (job_indexes (λ (e : Entry). e.stamp) d k job) values) (gone_of_job d k job)
@@ -326,7 +337,7 @@ module _ (t : Piece Entry → Bool) (d : Durable Entry) where
     unfolding state_checks
     write_back n first blocks values accepted =
         of_volume (volume_of d n) refl
-        (stands_too n (not_refused (is_none (volume_of (shape_of_tables d) n)) (NotFound in_vvol) (passed_state None (shape_of_tables d) (Write n first blocks) accepted 0)))
+        (stands_too d n (not_refused (is_none (volume_of (shape_of_tables d) n)) (NotFound in_vvol) (passed_state None (shape_of_tables d) (Write n first blocks) accepted 0)))
       where
         of_volume : (o : Option (Volume Entry)) → volume_of d n ≡ o → is_none o ≡ false
             → Back t d (with_volume d n (λ v. record v { chunks = put_at (touched_indexes d.geometry.chunk_blocks first blocks) values v.chunks }))

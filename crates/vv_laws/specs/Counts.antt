@@ -1,6 +1,6 @@
 -- What an accepted change adds to the numbers that a table of kept numbers has, and what it takes from them: the entries of
--- all lists, the chunks that running clones have reserved, the allocated chunks of each volume, and what each
--- container is charged for. This is this project's own.
+-- all lists, the chunks that running clones have reserved, the allocated chunks of each volume, and what each container is
+-- charged for. This is this project's own.
 use Rattle.std.specs.Prelude.{ℕ, ◌+◌, ◌-◌, ◌*◌, ◌==◌, ◌&&◌, not, List, length, slice_index, count_by, if◌then◌else◌}
 use Rattle.vv_flat.specs.Lists.{if_found, indexes_from}
 use Rattle.vv_flat.specs.State.{Job, Clone, Copy, Task, RunningClone, Piece, RunningCopy, Durable, task_of, clone_of, copy_of}

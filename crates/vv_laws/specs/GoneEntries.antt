@@ -1,5 +1,5 @@
--- The entries of tables that a change takes away or replaces, those that it puts in, and how many places of the pool are
--- free for it. This is this project's own.
+-- The entries of tables that a change takes away or replaces, those that it puts in, and how many places of the pool it
+-- frees. This is this project's own.
 use Rattle.std.specs.Prelude.{ℕ, ◌==◌, ◌&&◌, not, List, [], ◌∷◌, ◌++◌, map, length, filter, count_by, if◌then◌else◌}
 use Rattle.std.specs.List.{list_any}
 use Rattle.vv_flat.specs.Lists.{if_found, numbers_from}
@@ -46,7 +46,7 @@ entries_gone tables (Cancel n) =
     ++ if_found (copy_of tables n) (λ (c : RunningCopy Entry). c.pieces) []
 entries_gone tables _ = []
 
--- how many places of the pool some of these entries name, and none of those that stay
+-- how many places of the pool some entry that is gone names, and none that stays
 unfoldable pub freed_count : ℕ → List (Piece Entry) → List (Piece Entry) → ℕ
 freed_count pool_chunks gone stay = count_by (λ p. is_named gone p && not (is_named stay p)) (numbers_from 0 pool_chunks)
 

@@ -38,7 +38,7 @@ use Rattle.vv_laws.specs.Counts.{entries_added, ended_entries, entries_taken, st
 -- Sums over lists that are edited, whether or not an item is found.
 
 module _ {A : Type 0} (f : A → ℕ) (p : A → Bool) where
-  removed_sum : (xs : List A) → sum_by f (first_removed p xs) + if_found (find p xs) f 0 ≡ sum_by f xs
+  pub removed_sum : (xs : List A) → sum_by f (first_removed p xs) + if_found (find p xs) f 0 ≡ sum_by f xs
   removed_sum xs = go (find p xs) refl
     where
       go : (o : Option A) → find p xs ≡ o → sum_by f (first_removed p xs) + if_found o f 0 ≡ sum_by f xs
@@ -174,14 +174,14 @@ module _ (d : Durable ℕ) where
       let p = removed_sum copy_long (λ (b : RunningCopy ℕ). b.number == n) d.copies in
       omega (arith, c, p)
 
-some_of : {A : Type 0} (o : Option A) (P : Type 0) → is_none o ≡ false → ((x : A) → o ≡ Some x → P) → P
+pub some_of : {A : Type 0} (o : Option A) (P : Type 0) → is_none o ≡ false → ((x : A) → o ≡ Some x → P) → P
 some_of None P e h = cc
 some_of (Some x) P e h = h x refl
 
 size_is : (d : Durable ℕ) (n : ℕ) (v : Volume ℕ) → volume_of d n ≡ Some v → size_of d n ≡ length v.chunks
 size_is d n v e = ap (λ o. length (if_found o (λ (w : Volume ℕ). w.chunks) [])) e
 
-chunks_are : (d : Durable ℕ) (n : ℕ) (v : Volume ℕ) → volume_of d n ≡ Some v → stamps_of d n ≡ v.chunks
+pub chunks_are : (d : Durable ℕ) (n : ℕ) (v : Volume ℕ) → volume_of d n ≡ Some v → stamps_of d n ≡ v.chunks
 chunks_are d n v e = ap (λ o. if_found o (λ (w : Volume ℕ). w.chunks) []) e
 
 changed_to : (d : Durable ℕ) (n : ℕ) (g : Volume ℕ → Volume ℕ) (v : Volume ℕ) → volume_of d n ≡ Some v
@@ -513,7 +513,7 @@ any-map : {A B : Type 0} (p : B → Bool) (f : A → B) (xs : List A) → list_a
 any-map p f [] = refl
 any-map p f (x ∷ xs) = ap (λ b. p (f x) || b) (any-map p f xs)
 
-clone_stands : (d : Durable ℕ) → Kept d → (t : Task) → task_of d t.number ≡ Some t → is_running t ≡ true → is_clone t.job ≡ true
+pub clone_stands : (d : Durable ℕ) → Kept d → (t : Task) → task_of d t.number ≡ Some t → is_running t ≡ true → is_clone t.job ≡ true
     → is_some (clone_of d t.number) ≡ true
 clone_stands d rules t found runs clone =
     let both : (is_running t && is_clone t.job) ≡ true = and_both (is_running t) (is_clone t.job) runs clone in
@@ -523,17 +523,10 @@ clone_stands d rules t found runs clone =
     ∙ running_any (λ (u : Task). is_running u && is_clone u.job) t.number t d.tasks found both
 
 -- and its turn copies the least of 16 and what is left.
-pub turn_exact : (d : Durable ℕ) → is_well_formed_shape d ≡ true → (t : Task) → task_of d t.number ≡ Some t → is_running t ≡ true → is_clone t.job ≡ true
-    → length (turned_indexes (λ s. s) d t.number) ≡ next_piece t
-unfolding is_well_formed_shape turned_indexes
-turn_exact d well t found runs clone =
-    ap (λ o. length (if_found o (λ t. cond (is_running t) (job_indexes (λ s. s) d t t.job) []) [])) found
-    ∙ ap (λ b. length (cond b (job_indexes (λ s. s) d t t.job) [])) runs
-    ∙ of_job t.job refl
+pub clone_turn_exact : (d : Durable ℕ) → Kept d → (t : Task) → task_of d t.number ≡ Some t → is_running t ≡ true → is_clone t.job ≡ true
+    → length (if_found (clone_of d t.number) (λ (c : RunningClone ℕ). turn_indexes (map (λ s. s) c.image) t.done) []) ≡ next_piece t
+clone_turn_exact d rules t found runs clone = of_clone (clone_of d t.number) refl (clone_stands d rules t found runs clone)
   where
-    rules : Kept d
-    rules = kept d (and_left _ _ well)
-
     of_clone : (o : Option (RunningClone ℕ)) → clone_of d t.number ≡ o → is_some o ≡ true
         → length (if_found o (λ (c : RunningClone ℕ). turn_indexes (map (λ s. s) c.image) t.done) []) ≡ next_piece t
     of_clone None e some = cc
@@ -546,6 +539,14 @@ turn_exact d well t found runs clone =
         length-drop t.done (allocated_indexes (map (λ s. s) c.image)) in
         length-take 16 (drop t.done (allocated_indexes (map (λ s. s) c.image))) ∙ omega (arith, same, total, all, rest)
 
+pub turn_exact : (d : Durable ℕ) → is_well_formed_shape d ≡ true → (t : Task) → task_of d t.number ≡ Some t → is_running t ≡ true → is_clone t.job ≡ true
+    → length (turned_indexes (λ s. s) d t.number) ≡ next_piece t
+unfolding is_well_formed_shape turned_indexes
+turn_exact d well t found runs clone =
+    ap (λ o. length (if_found o (λ t. cond (is_running t) (job_indexes (λ s. s) d t t.job) []) [])) found
+    ∙ ap (λ b. length (cond b (job_indexes (λ s. s) d t t.job) [])) runs
+    ∙ of_job t.job refl
+  where
     of_job : (job : Job) → t.job ≡ job → length (job_indexes (λ s. s) d t job) ≡ next_piece t
-    of_job (Clone source) e = of_clone (clone_of d t.number) refl (clone_stands d rules t found runs clone)
+    of_job (Clone source) e = clone_turn_exact d (kept d (and_left _ _ well)) t found runs clone
     of_job (Copy source base target) e = let no : false ≡ true = ap is_clone (sym e) ∙ clone in cc

@@ -14,4 +14,10 @@ pub mod FlatKeeps
 pub mod WellFormedArrays
 pub mod VolatileForms
 pub mod KeptNumbers
+pub mod AllocatedCounts
+pub mod AllocatedVolumes
+pub mod ChargedCounts
+pub mod ListedPieces
+pub mod UsedCounts
+pub mod PlaceCounts
 pub mod FilledArrays

@@ -2,3 +2,4 @@ pub mod Logs
 pub mod Units
 pub mod VolatileForm
 pub mod Counts
+pub mod GoneEntries

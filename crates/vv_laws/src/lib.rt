@@ -27,8 +27,11 @@ pub use contents::{
     only_named_places_count, well_formed_tables_stand_for_a_well_formed_array,
 };
 pub use counts::{
-    a_turn_copies_few_chunks, a_turn_copies_the_least_of_16_and_what_is_left,
-    a_write_touches_few_chunks, entries_go_by_the_change, reserved_chunks_go_by_the_change,
+    a_place_is_named_where_its_count_is_not_0, a_turn_copies_few_chunks,
+    a_turn_copies_the_least_of_16_and_what_is_left, a_write_touches_few_chunks,
+    allocated_chunks_go_by_the_change, charges_go_by_the_change, entries_go_by_the_change,
+    names_of_places_go_by_the_record, reserved_chunks_go_by_the_change,
+    used_places_go_by_the_record,
 };
 pub use logs::{
     a_log_goes_on_where_its_front_ended, a_log_stops_at_the_first_unfit_record,

@@ -1,5 +1,5 @@
 -- A source and a sink in memory, for tests: what they hold, and which of their calls fail.
-use Rattle.std.specs.Prelude.{ℕ, ◌+◌, ◌-◌, ◌^◌, ◌==◌, ◌&&◌, ◌||◌, ◌++◌, Bool, List, length, take, drop, min, nat_lt, nat_le}
+use Rattle.std.specs.Prelude.{ℕ, ◌+◌, ◌-◌, ◌^◌, ◌==◌, ◌&&◌, ◌||◌, ◌++◌, Bool, List, length, drop, min, nat_lt, nat_le}
 use Rattle.std.specs.List.{list_any}
 
 -- a count goes up by one, and stands still at the end of its 64 bits

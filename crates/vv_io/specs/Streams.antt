@@ -1,5 +1,5 @@
 -- What a read does to the bytes that a source has left, and a write to those that a sink has taken, where they are told.
-use Rattle.std.specs.Prelude.{◌≡◌, ℕ, ◌<◌, List, take, length, Option, Some, None, Result, MatchResult, ⊤}
+use Rattle.std.specs.Prelude.{◌≡◌, ℕ, ◌<◌, List, ◌++◌, take, length, Option, Some, None, Result, MatchResult, ⊤}
 use Rattle.std.specs.Io.KnownBytes.{Appends, Consumes, IsAtEnd}
 
 -- told bytes stay as they were, or are no longer told
@@ -17,3 +17,9 @@ ReadTakes old new result into =
 abbrev pub WriteGives : {E : Type 0} → Option (List ℕ) → Option (List ℕ) → Result ℕ E → List ℕ → Type 0
 WriteGives old new result piece =
     MatchResult result (λ n. Appends old new (take n piece) × (0 < length piece → 0 < n)) (λ _. KeepsOrForgets old new)
+
+-- these bytes stood at the front, and the source has the others left, unless it no longer tells
+abbrev pub ConsumesOrForgets : Option (List ℕ) → Option (List ℕ) → List ℕ → Type 0
+ConsumesOrForgets None new bytes = ⊤
+ConsumesOrForgets (Some xs) None bytes = (rest : List ℕ) × (xs ≡ bytes ++ rest)
+ConsumesOrForgets (Some xs) (Some ys) bytes = xs ≡ bytes ++ ys

@@ -11,7 +11,7 @@ use Rattle.vv_run.specs.State.{State, empty_array}
 use Rattle.vv_run.specs.Steps.{Step, no_memory}
 use Rattle.vv_run.specs.Runs.{Run, texts_of, Answered, CutShort, LineAnswered, LineCut}
 use Rattle.vv_run.specs.Writing.{AppendsOrForgets, StopsWithin}
-use Rattle.vv_run.specs.Reading.{ConsumesOrForgets}
+use Rattle.vv_io.specs.Streams.{ConsumesOrForgets}
 use Rattle.vv_reply.specs.declared.reply.Reply.{Reply}
 use Rattle.vv_run.specs.declared.status.Status.{Status}
 use Rattle.vv_run.proofs.StreamLemmas.{appends_nothing, appends_more}

@@ -4,9 +4,8 @@ use Rattle.std.specs.Prelude.{Option}
 use Rattle.std.specs.Io.KnownBytes.{Appends, Consumes}
 use Rattle.std.proofs.lemmas.List.{take-append-drop}
 use Rattle.vv_units.specs.Causes.{Rose}
-use Rattle.vv_io.specs.Streams.{KeepsOrForgets}
+use Rattle.vv_io.specs.Streams.{KeepsOrForgets, ConsumesOrForgets}
 use Rattle.vv_run.specs.Writing.{AppendsOrForgets, StopsWithin}
-use Rattle.vv_run.specs.Reading.{ConsumesOrForgets}
 
 pub appends_nothing : (old : Option (List ℕ)) → Appends old old []
 appends_nothing None = tt

@@ -1,7 +1,6 @@
 pub mod Lines
 pub mod Words
 pub mod Writing
-pub mod Reading
 pub mod Status
 pub mod Transfers
 pub mod State

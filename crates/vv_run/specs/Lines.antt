@@ -1,10 +1,7 @@
 -- The lines of a script. A line ends by LF, and the last may lack it. Blank lines are no lines.
-use Rattle.std.specs.Prelude.{ℕ, ◌==◌, ◌||◌, List, [], ◌∷◌, length, nat_lt, Bool, not, filter, if◌then◌else◌}
-use Rattle.std.specs.List.{list_any}
+use Rattle.std.specs.Prelude.{ℕ, ◌==◌, ◌||◌, List, [], ◌∷◌, length, nat_lt, Bool, filter, if◌then◌else◌}
+use Rattle.vv_io.specs.Lines.{line_feed, has_more}
 use Rattle.vv_calls.specs.Lines.{line_limit}
-
-abbrev pub line_feed : ℕ
-line_feed = 10
 
 -- c goes onto the front of the first line
 abbrev pub onto_first : ℕ → List (List ℕ) → List (List ℕ)
@@ -25,14 +22,6 @@ onto_ended c (line ∷ lines) = (c ∷ line) ∷ lines
 abbrev pub ended_pieces : List ℕ → List (List ℕ)
 ended_pieces [] = []
 ended_pieces (c ∷ bytes) = if c == line_feed then [] ∷ ended_pieces bytes else onto_ended c (ended_pieces bytes)
-
--- a blank: space, tab or CR
-abbrev pub is_blank : ℕ → Bool
-is_blank c = (c == 32) || (c == 9) || (c == 13)
-
--- more than blanks
-abbrev pub has_more : List ℕ → Bool
-has_more line = list_any (λ c. not (is_blank c)) line
 
 -- A line that is passed over has only blanks, or nothing, and isn't too long.
 unfoldable pub has_text : List ℕ → Bool

@@ -6,7 +6,8 @@ use Rattle.vv_reply.specs.Replies.{text_of}
 use Rattle.vv_run.specs.State.{State, empty_array}
 use Rattle.vv_run.specs.Steps.{Step}
 use Rattle.vv_run.specs.Writing.{AppendsOrForgets, StopsWithin}
-use Rattle.vv_run.specs.Reading.{script_limit, ConsumesOrForgets}
+use Rattle.vv_io.specs.Reading.{script_limit}
+use Rattle.vv_io.specs.Streams.{ConsumesOrForgets}
 use Rattle.vv_run.specs.Lines.{ended_lines_of}
 use Rattle.vv_reply.specs.declared.reply.Reply.{Reply}
 

@@ -1,7 +1,8 @@
 //! The lines of a script.
 ghost use Rattle.std.specs.Prelude.{◌≡◌, ◌<◌, ◌==◌, ◌∷◌, not, length, nat_lt};
 ghost use Rattle.std.specs.List.{prefix_len};
-ghost use Rattle.vv_run.specs.Lines.{pieces, ended_pieces, has_text, has_more};
+ghost use Rattle.vv_io.specs.Lines.{has_more};
+ghost use Rattle.vv_run.specs.Lines.{pieces, ended_pieces, has_text};
 ghost use Rattle.vv_calls.specs.Lines.{line_limit};
 
 use vv_calls::LINE_LIMIT;

@@ -2,7 +2,8 @@
 ghost use Rattle.std.specs.Prelude.{◌≡◌, ◌≢◌, ◌+◌, ◌≤◌, [], length, vec_len};
 ghost use Rattle.std.specs.Io.KnownBytes.{Consumes, IsAtEnd};
 ghost use Rattle.vv_units.specs.Causes.{Rose};
-ghost use Rattle.vv_run.specs.Reading.{script_limit, ConsumesOrForgets};
+ghost use Rattle.vv_io.specs.Reading.{script_limit};
+ghost use Rattle.vv_io.specs.Streams.{ConsumesOrForgets};
 
 use vv_io::Source;
 

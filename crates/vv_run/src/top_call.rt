@@ -3,7 +3,7 @@ ghost use Rattle.std.specs.Prelude.{◌≡◌, ◌≢◌, ◌⊎◌, ◌↔◌, 
 ghost use Rattle.std.specs.Io.KnownBytes.{Consumes, IsAtEnd};
 ghost use Rattle.vv_units.specs.Causes.{Rose};
 ghost use Rattle.vv_run.specs.Lines.{lines_of, ended_lines_of};
-ghost use Rattle.vv_run.specs.Reading.{script_limit};
+ghost use Rattle.vv_io.specs.Reading.{script_limit};
 ghost use Rattle.vv_run.specs.Runs.{Answered, CutShort, AnsweredFront};
 ghost use Rattle.vv_run.specs.Words.{are_words};
 

@@ -1,6 +1,6 @@
 use Rattle.std.proofs.Common.{◌≡◌, ◌+◌, ◌-◌, ◌≤◌, vec_len}
 use Rattle.std.specs.Io.KnownBytes.{Consumes}
-use Rattle.vv_run.specs.Reading.{script_limit}
+use Rattle.vv_io.specs.Reading.{script_limit}
 use Rattle.vv_run.proofs.script.read_script.Given as goal
 
 abbrev pub invariant-loop-piece : goal.invariant-loop-piece

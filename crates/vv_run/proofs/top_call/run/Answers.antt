@@ -1,6 +1,6 @@
 use Rattle.std.proofs.Common.{List, ℕ, arith, refl, ap, take, ◌∙◌, filter, subst}
 use Rattle.vv_run.specs.Lines.{pieces, ended_pieces, has_text}
-use Rattle.vv_run.specs.Reading.{script_limit}
+use Rattle.vv_io.specs.Reading.{script_limit}
 use Rattle.vv_run.specs.Runs.{CutShort, Answered}
 use Rattle.vv_run.specs.declared.status.Status.TheVariants.{Done, SourceFault, SinkFault, TooMuch}
 use Rattle.vv_run.proofs.ServingLemmas.{cut_at_fault, cut_at_end, cut_past, answered_past, one_past, not_within, unless_ok, unless_err}

@@ -48,16 +48,16 @@ wide pool some few small = record {
   map_to = lit≤ tt;
 }
 
-wide_16 : Geometry
+unfoldable pub wide_16 : Geometry
 unfolding wide
 wide_16 = wide 16 (lit≤ tt) (lit≤ tt) (lit≤ tt)
 
-wide_2 : Geometry
+unfoldable pub wide_2 : Geometry
 unfolding wide
 wide_2 = wide 2 (lit≤ tt) (lit≤ tt) (lit≤ tt)
 
 -- 64 chunks of 4096 bytes, of which a volume of one MB has 256
-fine_64 : Geometry
+unfoldable pub fine_64 : Geometry
 fine_64 = record {
   chunk_blocks = 8;
   pool_chunks = 64;
@@ -71,95 +71,95 @@ fine_64 = record {
 }
 
 -- The replies to some calls, and the array after them, where the blocks that are looked at have these bytes.
-replies : BlocksAt → List Capability → Array ℕ → List Call → List Reply
+unfoldable pub replies : BlocksAt → List Capability → Array ℕ → List Call → List Reply
 unfolding reply_over next_shape judge misfit_in first_misfit apply_shape apply effect changed_indexes attentions_after used reserved free entries charge with_binding without_binding turned turned_indexes cancelled with_clone with_copy decoded ranges_in decided standard_data digits unit_at
 replies blocks capabilities a [] = []
 replies blocks capabilities a (c ∷ cs) =
     reply_over blocks capabilities a c ∷ replies blocks capabilities (next_shape blocks capabilities a c) cs
 
-after : BlocksAt → List Capability → Array ℕ → List Call → Array ℕ
+unfoldable pub after : BlocksAt → List Capability → Array ℕ → List Call → Array ℕ
 unfolding next_shape judge misfit_in first_misfit apply_shape apply effect changed_indexes attentions_after used reserved free entries charge with_binding without_binding turned turned_indexes cancelled with_clone with_copy decoded ranges_in decided standard_data digits unit_at
 after blocks capabilities a [] = a
 after blocks capabilities a (c ∷ cs) = after blocks capabilities (next_shape blocks capabilities a c) cs
 
 -- blocks that nothing was written to
-blank : BlocksAt
+unfoldable pub blank : BlocksAt
 blank volume first blocks = replicate (512 * blocks) 0
 
 -- the replies after some calls of a fresh array that knows no capability
-day : Geometry → List Call → List Call → List Reply
+unfoldable pub day : Geometry → List Call → List Call → List Reply
 unfolding replies after blank wide_16 wide_2 fine_64
 day geometry before calls = replies blank [] (after blank [] (empty_array geometry) before) calls
 
 -- Calls of host 1 at endpoint 1.
 
-abbrev create : ℕ → Call
+abbrev pub create : ℕ → Call
 create mb = call.CreateVirtualVolume None Data mb None
 
-abbrev bind : ℕ → Call
+abbrev pub bind : ℕ → Call
 bind n = call.BindVirtualVolume (record { 0 = 1 }) (record { 0 = n })
 
-abbrev unbind : ℕ → Call
+abbrev pub unbind : ℕ → Call
 unbind secondary = call.UnbindVirtualVolume (record { 0 = 1 }) (record { 0 = 1 }) (record { 0 = secondary })
 
-abbrev command : ℕ → ℕ → List ℕ → List ℕ → Call
+abbrev pub command : ℕ → ℕ → List ℕ → List ℕ → Call
 command host secondary cdb payload =
     call.Scsi (record { host = record { 0 = host }; endpoint = record { 0 = 1 }; secondary = record { 0 = secondary }; cdb = cdb; payload = payload })
 
-abbrev submit : List ℕ → List ℕ → Call
+abbrev pub submit : List ℕ → List ℕ → Call
 submit cdb payload =
     call.Submit (record { host = record { 0 = 1 }; endpoint = record { 0 = 1 }; secondary = record { 0 = 1 }; cdb = cdb; payload = payload })
 
-abbrev serve : Call
+abbrev pub serve : Call
 serve = call.Serve (record { 0 = 1 })
 
-abbrev transfer : ℕ → ℕ → ℕ → List ℕ
+abbrev pub transfer : ℕ → ℕ → ℕ → List ℕ
 transfer code lba blocks = (code ∷ 0 ∷ big_bytes 4 lba) ++ (0 ∷ big_bytes 2 blocks) ++ 0 ∷ []
 
 -- WRITE(10) and READ(10) at secondary identifier 1, and WRITE SAME(16)
-abbrev write : ℕ → ℕ → Call
+abbrev pub write : ℕ → ℕ → Call
 write lba blocks = command 1 1 (transfer 0x2a lba blocks) (replicate (512 * blocks) 0x11)
 
-abbrev read : ℕ → ℕ → Call
+abbrev pub read : ℕ → ℕ → Call
 read lba blocks = command 1 1 (transfer 0x28 lba blocks) []
 
-abbrev write_same : ℕ → ℕ → Call
+abbrev pub write_same : ℕ → ℕ → Call
 write_same lba blocks = command 1 1 ((0x93 ∷ 0 ∷ big_bytes 8 lba) ++ big_bytes 4 blocks ++ 0 ∷ 0 ∷ []) (replicate 512 0x11)
 
-abbrev snapshot : ℕ → Call
+abbrev pub snapshot : ℕ → Call
 snapshot n = call.SnapshotVirtualVolume (record { 0 = n })
 
-abbrev fast_clone : ℕ → Call
+abbrev pub fast_clone : ℕ → Call
 fast_clone n = call.FastCloneVirtualVolume (record { 0 = n })
 
-abbrev resize : ℕ → ℕ → Call
+abbrev pub resize : ℕ → ℕ → Call
 resize n mb = call.ResizeVirtualVolume (record { 0 = n }) mb
 
-abbrev revert : ℕ → ℕ → Call
+abbrev pub revert : ℕ → ℕ → Call
 revert n m = call.RevertVirtualVolume (record { 0 = n }) (record { 0 = m })
 
-abbrev unshared : ℕ → ℕ → Call
+abbrev pub unshared : ℕ → ℕ → Call
 unshared n m = call.UnsharedBitmapVirtualVolume (record { 0 = n }) (record { 0 = m }) None None
 
-abbrev turn : ℕ → Call
+abbrev pub turn : ℕ → Call
 turn n = call.Turn (record { 0 = n })
 
 -- Replies.
 
-abbrev vvol : ℕ → Reply
+abbrev pub vvol : ℕ → Reply
 vvol n = Done (answer.Vvol (record { 0 = n }))
 
-abbrev bound : ℕ → Reply
+abbrev pub bound : ℕ → Reply
 bound secondary = Done (answer.Bound (record { 0 = 1 }) (record { 0 = secondary }))
 
-abbrev bits : List Bool → Reply
+abbrev pub bits : List Bool → Reply
 bits flags = Done (answer.Bits flags)
 
-abbrev ended_by : ℕ → ℕ → ℕ → Reply
+abbrev pub ended_by : ℕ → ℕ → ℕ → Reply
 ended_by key asc ascq = check_condition (record { key = key; asc = asc; ascq = ascq }) None
 
 -- A volume of 4 MB, bound for host 1.
-setup : List Call
+unfoldable pub setup : List Call
 setup = create 4 ∷ bind 1 ∷ []
 
 -- A write of no block takes no log number.

@@ -1,2 +1,4 @@
 pub mod Days
 pub mod FurtherDays
+pub mod Deeds
+pub mod Moves

@@ -4,3 +4,4 @@ pub mod Commands
 pub mod Calls
 pub mod Meaning
 pub mod Steps
+pub mod Forms

@@ -1,26 +1,19 @@
 -- Days of small arrays, call by call: the replies, computed from the definitions.
-use Rattle.std.specs.Prelude.{◌≡◌, ◌≤◌, ℕ, ◌+◌, ◌*◌, ◌^◌, ◌/◌, ◌%◌, Bool, true, false, List, [], ◌∷◌, ◌++◌, Option, Some, None, refl, codes, replicate}
+use Rattle.std.specs.Prelude.{◌≡◌, ◌≤◌, ℕ, ◌*◌, Bool, true, false, List, [], ◌∷◌, ◌++◌, Some, None, refl, replicate}
 use Rattle.std.proofs.Common.{lit≤}
 use Rattle.byteorder.specs.Endian.{big_bytes}
 use Rattle.vv_units.specs.declared.geometry.Geometry.{Geometry}
 use Rattle.vv_units.specs.declared.field.Field.TheVariants as field
-use Rattle.vv_units.specs.declared.volume.Need.{Need}
-use Rattle.vv_units.specs.declared.volume.Offer.{Offer}
 use Rattle.vv_units.specs.declared.volume.VvolType.TheVariants.{Data}
-use Rattle.vv_units.specs.declared.volume.VolumeKind.TheVariants.{Plain, FullCloneOf}
-use Rattle.vv_units.specs.declared.volume.TaskState.TheVariants.{Running, Success, Cancelled}
-use Rattle.vv_units.specs.declared.volume.Why.TheVariants.{Unknown, NotOffered, TooLittle}
+use Rattle.vv_units.specs.declared.volume.VolumeKind.TheVariants.{Plain}
 use Rattle.vv_flat.specs.State.{Array, empty_array}
 use Rattle.vv_flat.specs.Space.{used, reserved, free, entries, charge}
 use Rattle.vv_flat.specs.Bindings.{with_binding, without_binding}
 use Rattle.vv_flat.specs.Tasks.{turned, turned_indexes, cancelled, with_clone, with_copy}
-use Rattle.vv_flat.specs.Profiles.{Capability, AtLeast, AtMost, Equal, OneOf, first_misfit}
+use Rattle.vv_flat.specs.Profiles.{Capability, first_misfit}
 use Rattle.vv_flat.specs.Changes.{judge, misfit_in, apply_shape, apply, effect, changed_indexes, attentions_after}
-use Rattle.vv_flat.specs.Restart.{restarted}
 use Rattle.vv_calls.specs.declared.call.Call.{Call}
 use Rattle.vv_calls.specs.declared.call.Call.TheVariants as call
-use Rattle.vv_cdb.specs.declared.sense.Sense.{Sense}
-use Rattle.vv_cdb.specs.Senses.{sense_data}
 use Rattle.vv_cdb.specs.Cdbs.{decoded}
 use Rattle.vv_cdb.specs.UnmapLists.{ranges_in}
 use Rattle.vv_lun.specs.Decided.{decided}
@@ -29,10 +22,9 @@ use Rattle.vv_reply.specs.declared.reply.Answer.TheVariants as answer
 use Rattle.vv_reply.specs.declared.reply.Reply.{Reply}
 use Rattle.vv_reply.specs.declared.reply.Reply.TheVariants.{Done, Refused}
 use Rattle.vv_reply.specs.declared.reply.Refusal.TheVariants as fault
-use Rattle.vv_meaning.specs.Told.{good, done, check_condition, task_set_full}
-use Rattle.vv_meaning.specs.Commands.{unit_at, commanded, queued, served}
-use Rattle.vv_meaning.specs.Calls.{asked, task_after, pool_told}
-use Rattle.vv_meaning.specs.Meaning.{BlocksAt, verdict_on, reply_over, next_shape}
+use Rattle.vv_meaning.specs.Told.{good, done, check_condition}
+use Rattle.vv_meaning.specs.Commands.{unit_at}
+use Rattle.vv_meaning.specs.Meaning.{BlocksAt, reply_over, next_shape}
 
 -- Chunks of one MB, of which the pool has so many, and lists of 256 entries.
 wide : (pool : ℕ) → 1 ≤ pool → pool ≤ 262144 → pool * 2048 ≤ 8388608 → Geometry
@@ -195,7 +187,7 @@ unfolding day
 a_full_pool = refl
 
 -- UNMAP of the first chunk of 2048 blocks, and of the first half of the second
-abbrev unmap : ℕ → ℕ → ℕ → Call
+abbrev pub unmap : ℕ → ℕ → ℕ → Call
 unmap secondary lba blocks =
     command 1 secondary (0x42 ∷ 0 ∷ 0 ∷ 0 ∷ 0 ∷ 0 ∷ 0 ∷ 0 ∷ 24 ∷ 0 ∷ [])
     ((0 ∷ 22 ∷ 0 ∷ 16 ∷ 0 ∷ 0 ∷ 0 ∷ 0 ∷ big_bytes 8 lba) ++ big_bytes 4 blocks ++ 0 ∷ 0 ∷ 0 ∷ 0 ∷ [])

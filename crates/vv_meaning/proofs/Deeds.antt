@@ -1,12 +1,12 @@
 -- What a deed does to an array: the deeds of every call bring their bytes, and what the flat array's steps keep is kept.
-use Rattle.std.proofs.Common.{◌≡◌, ◌≤◌, ℕ, zero, suc, ◌+◌, ◌-◌, ◌*◌, ◌==◌, ◌&&◌, not, refl, ap, sym, ◌∙◌, Bool, true, false, cond, List, [], ◌∷◌, ◌++◌, length, drop, arith, length-drop}
+use Rattle.std.proofs.Common.{◌≡◌, ◌≤◌, ℕ, zero, suc, ◌+◌, ◌-◌, ◌*◌, ◌==◌, ◌&&◌, not, refl, ap, sym, ◌∙◌, Bool, true, false, cond, List, ◌++◌, length, drop, arith, length-drop}
 use Rattle.std.specs.Prelude.{Option, Some, None, Result, Ok, Err}
 use Rattle.std.proofs.lemmas.List.{length-append}
 use Rattle.std.proofs.lemmas.Bool.{eqb-true, eq-eqb}
 use Rattle.vv_flat.specs.Lists.{if_found}
-use Rattle.vv_flat.specs.State.{Address, QueuedCommand, Volatile, Durable, Array}
-use Rattle.vv_flat.specs.Chunks.{ChunkValue, shape, same_blocks, written_half, compared_half}
-use Rattle.vv_flat.specs.Volatile.{is_queue_full, queue_of, queue_head, submitted, head_taken, without_attention}
+use Rattle.vv_flat.specs.State.{Address, QueuedCommand, Durable, Array}
+use Rattle.vv_flat.specs.Chunks.{ChunkValue, shape, same_blocks}
+use Rattle.vv_flat.specs.Volatile.{is_queue_full, queue_of, queue_head, submitted, head_taken}
 use Rattle.vv_flat.specs.Profiles.{Capability}
 use Rattle.vv_flat.specs.Refusals.{Verdict, Refuse, Nothing, Accept}
 use Rattle.vv_flat.specs.Changes.{Change, MakeContainer, MakeVolume, DeleteVolume, GrowVolume, SetMetadata, Snapshot, FastClone, Revert, Write, Unmap, SetEndpoints, Bind, Unbind, UnbindAll, StartClone, StartCopy, Turn, Cancel, judge, misfit_in, apply, apply_shape, attentions_after}
@@ -37,7 +37,7 @@ use Rattle.vv_calls.specs.declared.call.Call.TheVariants as call
 use Rattle.vv_calls.specs.Formed.{IsFormed}
 use Rattle.vv_reply.specs.declared.reply.Answer.TheVariants.{Queued, NothingServed}
 use Rattle.vv_reply.specs.declared.reply.Reply.TheVariants.{Done}
-use Rattle.vv_meaning.specs.Asks.{Wanted, Deed, Answered, Reads, Changes, Ask, answered}
+use Rattle.vv_meaning.specs.Asks.{Wanted, Deed, Answered, Reads, Changes, answered}
 use Rattle.std.specs.Str.{bytes_eq}
 use Rattle.vv_meaning.specs.Told.{task_set_full, good, miscompared}
 use Rattle.vv_meaning.specs.Commands.{unit_at, volume_in, cleared, clears_attention, deed_of, done_at, has_other_length, wrong_data, commanded, queued, served, command_of}
@@ -122,6 +122,7 @@ commanded_form a c e = go (has_other_length (decoded c.cdb) c.payload)
   where
     act : Action
     act = decided (unit_at (array_shape a) c.address) (decoded c.cdb) c.payload
+
     go : (b : Bool) → has_volatile_form (record a {
       volatile = (cond b (answered a.volatile wrong_data)
           (done_at (array_shape a) c.address c.payload (volume_in (unit_at (array_shape a) c.address))
@@ -508,6 +509,7 @@ reply_alike p q capabilities d (Changes w) same = told_alike (verdict_on capabil
     differs_alike : (change : Change) (compared : Option (List ℕ)) → differs p change compared ≡ differs q change compared
     differs_alike (Write volume first n) (Some expected) = ap (λ bytes. not (bytes_eq bytes expected)) (same volume first n)
     differs_alike _ _ = refl
+
     told_alike : (v : Verdict) → told p w v ≡ told q w v
     told_alike (Refuse refusal) = refl
     told_alike Nothing = refl

@@ -1,7 +1,5 @@
 -- Further days of small arrays: tasks, quotas, profiles, queues, bindings and commands.
-use Rattle.std.specs.Prelude.{◌≡◌, ℕ, ◌*◌, Bool, true, false, List, [], ◌∷◌, ◌++◌, Option, Some, None, refl, codes, replicate}
-use Rattle.byteorder.specs.Endian.{big_bytes}
-use Rattle.vv_units.specs.declared.geometry.Geometry.{Geometry}
+use Rattle.std.specs.Prelude.{◌≡◌, ℕ, ◌*◌, true, false, List, [], ◌∷◌, ◌++◌, Some, None, refl, codes, replicate}
 use Rattle.vv_units.specs.declared.field.Field.TheVariants as field
 use Rattle.vv_units.specs.declared.volume.Need.{Need}
 use Rattle.vv_units.specs.declared.volume.Offer.{Offer}
@@ -123,6 +121,11 @@ a_queue : day wide_16 setup (written ∷ unbind 1 ∷ serve ∷ serve ∷ create
     ≡ Done (answer.Queued 1) ∷ Done (answer.Left 0) ∷ ended_by 5 0x25 0 ∷ Done answer.NothingServed ∷ vvol 4 ∷ []
 unfolding day setup
 a_queue = refl
+
+a_queue_ahead_of_a_binding : day wide_16 (create 4 ∷ []) (written ∷ bind 1 ∷ serve ∷ create 1 ∷ [])
+    ≡ Done (answer.Queued 1) ∷ bound 1 ∷ good [] ∷ vvol 4 ∷ []
+unfolding day
+a_queue_ahead_of_a_binding = refl
 
 -- It is done at its turn, and taken off.
 a_served_write : day wide_16 setup (written ∷ serve ∷ serve ∷ create 1 ∷ [])

@@ -1,6 +1,6 @@
 -- Steps of the durable array, one after another.
-use Rattle.std.proofs.Common.{◌≡◌, ◌≤◌, ℕ, ◌+◌, ◌==◌, refl, ap, sym, ◌∙◌, subst, inl, inr, Bool, true, false, List, [], ◌∷◌, ◌++◌}
-use Rattle.std.specs.Prelude.{Option, ◌⊎◌}
+use Rattle.std.proofs.Common.{◌≡◌, ℕ, ◌+◌, refl, sym, subst, inl, inr, true, List, [], ◌∷◌, ◌++◌}
+use Rattle.std.specs.Prelude.{Option}
 use Rattle.std.proofs.lemmas.Bool.{eqb-true}
 use Rattle.vv_flat.specs.State.{Array}
 use Rattle.vv_flat.specs.Chunks.{ChunkValue}

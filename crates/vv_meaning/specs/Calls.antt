@@ -1,15 +1,13 @@
 -- What each call asks of an array: a row a call. Which refusal it gets is said by `judge` for the change that it asks for,
 -- and nothing of that is said again here. The names of calls are those of VASA 2.0 and this project's own.
-use Rattle.std.specs.Prelude.{ℕ, ◌+◌, ◌-◌, List, [], map, Bool, length, nat_lt, Option, Some, None, is_none, unwrap_or, option_map, if◌then◌else◌}
+use Rattle.std.specs.Prelude.{ℕ, ◌+◌, ◌-◌, List, [], map, Bool, length, nat_lt, Option, None, is_none, unwrap_or, option_map, if◌then◌else◌}
 use Rattle.vv_units.specs.Sizes.{volume_chunks}
 use Rattle.vv_units.specs.declared.field.Field.{Field}
 use Rattle.vv_units.specs.declared.field.Field.TheVariants as field
-use Rattle.vv_units.specs.declared.volume.Need.{Need}
 use Rattle.vv_units.specs.declared.numbers.ContainerId.{ContainerId}
 use Rattle.vv_units.specs.declared.numbers.EndpointId.{EndpointId}
-use Rattle.vv_units.specs.declared.numbers.VolumeId.{VolumeId}
 use Rattle.vv_flat.specs.Lists.{if_found}
-use Rattle.vv_flat.specs.State.{Address, Container, Volume, Task, Durable, Volatile, Array, container_of, volume_of, task_of}
+use Rattle.vv_flat.specs.State.{Address, Container, Volume, Task, Durable, Array, container_of, volume_of, task_of}
 use Rattle.vv_flat.specs.Space.{used, reserved, free, entries, charge, allocated_count}
 use Rattle.vv_flat.specs.Bits.{allocated_bits, unshared_bits, unshared_count, bits_within}
 use Rattle.vv_flat.specs.Bindings.{bound_address, count_left, host_bindings}
@@ -18,12 +16,11 @@ use Rattle.vv_flat.specs.Changes as change
 use Rattle.vv_flat.specs.Changes.{Change, apply_shape, stamps_of, size_of, allocated_of}
 use Rattle.vv_calls.specs.declared.call.Call.{Call}
 use Rattle.vv_calls.specs.declared.call.Call.TheVariants as call
-use Rattle.vv_reply.specs.declared.reply.Answer.{Answer}
 use Rattle.vv_reply.specs.declared.reply.Answer.TheVariants as answer
 use Rattle.vv_reply.specs.declared.reply.Reply.{Reply}
 use Rattle.vv_reply.specs.declared.reply.Reply.TheVariants.{Done, Refused}
 use Rattle.vv_reply.specs.declared.reply.Refusal.TheVariants.{NotFound, InvalidArgument}
-use Rattle.vv_meaning.specs.Asks.{NewBytes, Without, OfImage, AsFault, Wanted, Ask, answered, wants}
+use Rattle.vv_meaning.specs.Asks.{NewBytes, Without, OfImage, AsFault, Ask, answered, wants}
 use Rattle.vv_meaning.specs.Told.{done}
 use Rattle.vv_meaning.specs.Commands.{commanded, queued, served, command_of}
 

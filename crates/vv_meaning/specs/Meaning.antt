@@ -1,19 +1,18 @@
 -- The meaning of each call over a flat array: its reply, and the array after it. Both are decided by the shape, the queues
 -- and the attentions, but for the data of a READ, the comparison of a COMPARE AND WRITE, and the new bytes of chunks.
-use Rattle.std.specs.Prelude.{ℕ, ◌+◌, ◌==◌, ◌&&◌, Bool, true, false, not, List, [], Option, Some, None, nat_lt, if◌then◌else◌}
+use Rattle.std.specs.Prelude.{ℕ, ◌&&◌, Bool, false, not, List, [], Option, Some, if◌then◌else◌}
 use Rattle.std.specs.Str.{bytes_eq}
 use Rattle.vv_flat.specs.Lists.{if_found}
-use Rattle.vv_flat.specs.State.{Volume, Task, Durable, Array, volume_of, task_of}
+use Rattle.vv_flat.specs.State.{Volume, Durable, Array, volume_of}
 use Rattle.vv_flat.specs.Chunks.{ChunkValue, shape, blocks_read, same_blocks}
-use Rattle.vv_flat.specs.Space.{is_running, is_clone}
 use Rattle.vv_flat.specs.Profiles.{Capability}
 use Rattle.vv_flat.specs.Refusals.{Verdict, Refuse, Nothing, Accept}
-use Rattle.vv_flat.specs.Changes.{Change, Write, Turn, judge, misfit_in, apply_shape, attentions_after}
+use Rattle.vv_flat.specs.Changes.{Change, Write, judge, misfit_in, apply_shape, attentions_after}
 use Rattle.vv_flat.specs.Replay.{is_accepted}
 use Rattle.vv_flat.specs.Flat.{array_after}
 use Rattle.vv_calls.specs.declared.call.Call.{Call}
 use Rattle.vv_reply.specs.declared.reply.Reply.{Reply}
-use Rattle.vv_meaning.specs.Asks.{NewBytes, Without, These, Repeated, OfImage, Form, AsFault, AsSense, Wanted, Deed, Answered, Reads, Changes, Ask}
+use Rattle.vv_meaning.specs.Asks.{NewBytes, Without, These, Repeated, OfImage, Wanted, Deed, Answered, Reads, Changes, Ask}
 use Rattle.vv_meaning.specs.Told.{good, miscompared, refused_as}
 use Rattle.vv_meaning.specs.Calls.{asked}
 

@@ -1,6 +1,6 @@
 -- The durable array, step by step: what a line may be answered, and the state that it may leave, where memory may run out
 -- and the disk may fail. This is this project's own.
-use Rattle.std.specs.Prelude.{◌≡◌, ℕ, ◌+◌, ◌==◌, ◌&&◌, ◌||◌, Bool, true, false, not, IsTrue, IsFalse, List, [], ◌∷◌, ◌++◌, Option, Some, None, Result, Ok, Err, ⊤, ◌⊎◌, nat_lt}
+use Rattle.std.specs.Prelude.{◌≡◌, ℕ, ◌+◌, ◌==◌, ◌&&◌, ◌||◌, Bool, true, false, not, IsTrue, IsFalse, List, [], ◌∷◌, ◌++◌, Option, Some, None, Ok, Err, ⊤, ◌⊎◌, nat_lt}
 use Rattle.std.specs.List.{flat_map}
 use Rattle.vv_units.specs.declared.damage.Damage.{Damage}
 use Rattle.vv_flat.specs.Lists.{if_found}
@@ -19,7 +19,7 @@ use Rattle.vv_reply.specs.Replies.{text_of, recovered_text}
 use Rattle.vv_reply.specs.declared.reply.Reply.{Reply}
 use Rattle.vv_reply.specs.declared.reply.Reply.TheVariants.{Refused, Line}
 use Rattle.vv_reply.specs.declared.reply.Refusal.TheVariants as fault
-use Rattle.vv_meaning.specs.Asks.{Form, AsFault, AsSense, Wanted, Deed, Answered, Reads, Changes}
+use Rattle.vv_meaning.specs.Asks.{Form, AsFault, AsSense, Deed, Answered, Reads, Changes}
 use Rattle.vv_meaning.specs.Told.{done, read_failed_as, write_failed_as}
 use Rattle.vv_meaning.specs.Calls.{asked}
 use Rattle.vv_meaning.specs.Meaning.{array_shape, verdict_on, reply, next}

@@ -5,7 +5,6 @@ use Rattle.vv_flat.specs.Lists.{if_found}
 use Rattle.vv_flat.specs.Refusals as flat
 use Rattle.vv_cdb.specs.declared.sense.Sense.{Sense}
 use Rattle.vv_lun.specs.Senses.{lba_out_of_range, write_protected}
-use Rattle.vv_reply.specs.declared.reply.Answer.{Answer}
 use Rattle.vv_reply.specs.declared.reply.Answer.TheVariants.{Empty}
 use Rattle.vv_reply.specs.declared.reply.Reply.{Reply}
 use Rattle.vv_reply.specs.declared.reply.Reply.TheVariants.{Done, Refused, Scsi}

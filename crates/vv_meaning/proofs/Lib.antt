@@ -1,0 +1,5 @@
+pub mod Days
+pub mod FurtherDays
+pub mod ByteDays
+pub mod Deeds
+pub mod Moves

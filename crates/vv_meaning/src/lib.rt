@@ -1,0 +1,18 @@
+//! What each call of a line means over the whole array, and the steps of an array that may fail. `specs/` has the
+//! definitions: what a call asks, its reply, the array after it, and the runs of the durable array. The functions here are
+//! laws of them.
+#![tactic(auto)]
+
+mod meaning;
+mod steps;
+mod table;
+
+pub use meaning::{
+    a_call_keeps_an_array_well_formed, a_call_keeps_the_volatile_form,
+    a_call_that_is_not_journaled_leaves_the_durable_part,
+    a_call_without_a_command_leaves_all_unless_it_is_journaled, a_change_is_answered_by_the_shape,
+    a_journaled_call_takes_the_next_log_number, arrays_of_one_shape_reply_alike_but_for_bytes,
+    the_shape_after_a_call_is_known_from_the_shape,
+};
+pub use steps::{a_run_goes_on_by_one_line, a_run_keeps_states, a_step_keeps_states};
+pub use table::the_reply_to_a_restart;

@@ -3,3 +3,4 @@ pub mod FurtherDays
 pub mod ByteDays
 pub mod Deeds
 pub mod Moves
+pub mod Fitting

@@ -14,5 +14,8 @@ pub use meaning::{
     a_journaled_call_takes_the_next_log_number, arrays_of_one_shape_reply_alike_but_for_bytes,
     the_shape_after_a_call_is_known_from_the_shape,
 };
-pub use steps::{a_run_goes_on_by_one_line, a_run_keeps_states, a_step_keeps_states};
+pub use steps::{
+    a_run_goes_on_by_one_line, a_run_keeps_states, a_step_keeps_states,
+    every_reply_of_a_step_has_a_text, log_numbers_never_fall,
+};
 pub use table::the_reply_to_a_restart;

@@ -1,6 +1,6 @@
 -- Steps of the durable array, one after another.
 use Rattle.std.proofs.Common.{◌≡◌, ◌≤◌, ℕ, ◌+◌, ◌&&◌, ◌⊎◌, refl, sym, ◌∙◌, subst, inl, inr, Bool, true, false, List, [], ◌∷◌, ◌++◌, arith, lit≤}
-use Rattle.std.specs.Prelude.{Option}
+use Rattle.std.specs.Prelude.{Option, Ok}
 use Rattle.std.proofs.lemmas.Bool.{eqb-true}
 use Rattle.vv_flat.specs.State.{Durable, Array}
 use Rattle.vv_flat.specs.Chunks.{ChunkValue}
@@ -13,10 +13,12 @@ use Rattle.vv_meaning.specs.Steps as steps
 use Rattle.vv_meaning.specs.Asks.{Form, AsFault, AsSense}
 use Rattle.vv_meaning.specs.Told.{read_failed_as, write_failed_as}
 use Rattle.vv_meaning.specs.Steps.{State, Up, Down, IsState, least_number, is_well_formed_state, is_journaled, form_for, IsReopenFault, CallStep, ReopenedStep, Step, Report, Run}
-use Rattle.vv_meaning.proofs.Deeds.{call_leaves}
+use Rattle.vv_meaning.proofs.Deeds.{call_leaves, call_keeps_array}
+use Rattle.vv_meaning.specs.Forms.{call_has_forms}
+use Rattle.vv_calls.specs.Lines.{line_reading}
 use Rattle.vv_meaning.proofs.Fitting.{reply_fits}
 use Rattle.vv_flat.specs.FlatForm.{is_well_formed_array}
-use Rattle.vv_flat.proofs.Shares.{and_left, and_right}
+use Rattle.vv_flat.proofs.Shares.{and_left, and_right, and_both}
 use Rattle.vv_reply.specs.Replies.{FitsReply}
 
 pub journaled_number : (capabilities : List Capability) (a : Array ChunkValue) (c : Call) → is_journaled capabilities a c ≡ true
@@ -161,3 +163,45 @@ step_fits capabilities old line recovered answer new (steps.Restarted m o r n e 
 step_fits capabilities old line recovered answer new (steps.ReopenFailed a b c o r n e f) well = fault_fits answer e
 step_fits capabilities old line recovered answer new (steps.Reopened a b m c o r w n step) well =
     reopened_fits capabilities (restarted m) c answer new step (found_well a b m w (subst (λ s. is_well_formed_state s ≡ true) o well))
+
+-- A step keeps the arrays of a state well-formed, where the fields of its call have their forms.
+
+call_well : (capabilities : List Capability) (m : Array ChunkValue) (c : Call) (answer : Reply) (new : State)
+    → CallStep capabilities m c answer new → call_has_forms c ≡ true → is_well_formed_array m.durable ≡ true → is_well_formed_state new ≡ true
+call_well capabilities m c answer new (steps.Served e f) forms well =
+    subst (λ s. is_well_formed_state s ≡ true) (sym f) (call_keeps_array capabilities m c forms well)
+call_well capabilities m c answer new (steps.ReadFailed b e f) forms well = subst (λ s. is_well_formed_state s ≡ true) (sym f) well
+call_well capabilities m c answer new (steps.WriteFailed b e f) forms well =
+    subst (λ s. is_well_formed_state s ≡ true) (sym f)
+    (and_both (is_well_formed_array m.durable) (is_well_formed_array (next capabilities m c).durable) well (call_keeps_array capabilities m c forms well))
+call_well capabilities m c answer new (steps.WithoutMemory e f) forms well = subst (λ s. is_well_formed_state s ≡ true) (sym f) well
+
+reopened_well : (capabilities : List Capability) (m : Array ChunkValue) (c : Call) (answer : Reply) (new : State)
+    → ReopenedStep capabilities m c answer new → call_has_forms c ≡ true → is_well_formed_array m.durable ≡ true → is_well_formed_state new ≡ true
+reopened_well capabilities m c answer new (steps.Restarted b e f) forms well = subst (λ s. is_well_formed_state s ≡ true) (sym f) well
+reopened_well capabilities m c answer new (steps.Called b step) forms well = call_well capabilities m c answer new step forms well
+
+up_well : (old : State) (m : Array ChunkValue) → old ≡ Up m → is_well_formed_state old ≡ true → is_well_formed_array m.durable ≡ true
+up_well old m o well = subst (λ s. is_well_formed_state s ≡ true) o well
+
+both_well : (m : Array ChunkValue) → is_well_formed_array m.durable ≡ true → is_well_formed_state (Down m m) ≡ true
+both_well m well = and_both (is_well_formed_array m.durable) (is_well_formed_array m.durable) well well
+
+pub step_well : (capabilities : List Capability) (old : State) (line : List ℕ) (recovered : Option ℕ) (answer : Reply) (new : State)
+    → Step capabilities old line recovered answer new → ((c : Call) → line_reading line ≡ Ok c → call_has_forms c ≡ true)
+    → is_well_formed_state old ≡ true → is_well_formed_state new ≡ true
+step_well capabilities old line recovered answer new (steps.Faulty cause r n e f) forms well = subst (λ s. is_well_formed_state s ≡ true) (sym f) well
+step_well capabilities old line recovered answer new (steps.NoMemory n e f) forms well = subst (λ s. is_well_formed_state s ≡ true) (sym f) well
+step_well capabilities old line recovered answer new (steps.RestartWithoutMemory m o r n e f) forms well =
+    subst (λ s. is_well_formed_state s ≡ true) (sym f) (both_well m (up_well old m o well))
+step_well capabilities old line recovered answer new (steps.Called m c o r b n step) forms well =
+    call_well capabilities m c answer new step (forms c r) (up_well old m o well)
+step_well capabilities old line recovered answer new (steps.RestartFailed m o r n e f) forms well =
+    subst (λ s. is_well_formed_state s ≡ true) (sym f) (both_well m (up_well old m o well))
+step_well capabilities old line recovered answer new (steps.Restarted m o r n e f) forms well =
+    subst (λ s. is_well_formed_state s ≡ true) (sym f) (up_well old m o well)
+step_well capabilities old line recovered answer new (steps.ReopenFailed a b c o r n e f) forms well =
+    subst (λ s. is_well_formed_state s ≡ true) (sym f) (subst (λ s. is_well_formed_state s ≡ true) o well)
+step_well capabilities old line recovered answer new (steps.Reopened a b m c o r w n step) forms well =
+    reopened_well capabilities (restarted m) c answer new step (forms c r)
+    (found_well a b m w (subst (λ s. is_well_formed_state s ≡ true) o well))

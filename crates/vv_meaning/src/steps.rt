@@ -1,8 +1,11 @@
 //! Steps and runs of the durable array.
-ghost use Rattle.std.specs.Prelude.{◌≤◌, ℕ, IsTrue, List, [], ◌∷◌, ◌++◌, Option};
+ghost use Rattle.std.specs.Prelude.{◌≡◌, ◌≤◌, ℕ, IsTrue, Ok, List, [], ◌∷◌, ◌++◌, Option};
 ghost use Rattle.vv_flat.specs.Profiles.{Capability};
 ghost use Rattle.vv_reply.specs.declared.reply.Reply.{Reply};
 ghost use Rattle.vv_reply.specs.Replies.{FitsReply};
+ghost use Rattle.vv_calls.specs.Lines.{line_reading};
+ghost use Rattle.vv_calls.specs.declared.call.Call.{Call};
+ghost use Rattle.vv_meaning.specs.Forms.{call_has_forms};
 ghost use Rattle.vv_meaning.specs.Steps.{State, IsState, least_number, is_well_formed_state, Step, Report, Run};
 
 /// The two arrays of a state that is down are the same or a log number apart, and every step keeps that,
@@ -27,6 +30,13 @@ pub fn log_numbers_never_fall()
 pub fn every_reply_of_a_step_has_a_text()
     ensures { (capabilities : List Capability) → (old : State) → (line : List ℕ) → (recovered : Option ℕ) → (answer : Reply) → (new : State)
         → Step capabilities old line recovered answer new → IsTrue (is_well_formed_state old) → FitsReply answer }
+{}
+
+/// A step keeps arrays well-formed, where the fields of its call have their forms.
+pub fn a_step_keeps_arrays_well_formed()
+    ensures { (capabilities : List Capability) → (old : State) → (line : List ℕ) → (recovered : Option ℕ) → (answer : Reply) → (new : State)
+        → Step capabilities old line recovered answer new → ((c : Call) → line_reading line ≡ Ok c → IsTrue (call_has_forms c))
+        → IsTrue (is_well_formed_state old) → IsTrue (is_well_formed_state new) }
 {}
 
 /// A run and one step more are a run.

@@ -1,6 +1,6 @@
 -- Steps of the durable array, one after another.
 use Rattle.std.proofs.Common.{◌≡◌, ◌≤◌, ℕ, ◌+◌, ◌&&◌, ◌⊎◌, refl, sym, ◌∙◌, subst, inl, inr, Bool, true, false, List, [], ◌∷◌, ◌++◌, arith, lit≤}
-use Rattle.std.specs.Prelude.{Option, Ok}
+use Rattle.std.specs.Prelude.{Option, Some, None, Ok}
 use Rattle.std.proofs.lemmas.Bool.{eqb-true}
 use Rattle.vv_flat.specs.State.{Durable, Array}
 use Rattle.vv_flat.specs.Chunks.{ChunkValue}
@@ -205,3 +205,32 @@ step_well capabilities old line recovered answer new (steps.ReopenFailed a b c o
 step_well capabilities old line recovered answer new (steps.Reopened a b m c o r w n step) forms well =
     reopened_well capabilities (restarted m) c answer new step (forms c r)
     (found_well a b m w (subst (λ s. is_well_formed_state s ≡ true) o well))
+
+-- A recovered number is no lower than that of the state before, and no higher than that of the state after.
+
+some_same : (a b : ℕ) → Some a ≡ Some b → a ≡ b
+some_same a b e = cc
+
+recovered_none : {A : Type 0} (recovered : Option ℕ) (n : ℕ) → recovered ≡ None → recovered ≡ Some n → A
+recovered_none recovered n e f = cc
+
+between : (m n : ℕ) (old new : State) → m ≡ n → least_number old ≤ m → m ≤ least_number new
+    → (least_number old ≤ n) × (n ≤ least_number new)
+between m n old new e below above = (omega (arith, e, below), omega (arith, e, above))
+
+pub step_recovered : (capabilities : List Capability) (old : State) (line : List ℕ) (recovered : Option ℕ) (answer : Reply) (new : State) (n : ℕ)
+    → Step capabilities old line recovered answer new → IsState old → recovered ≡ Some n → (least_number old ≤ n) × (n ≤ least_number new)
+step_recovered capabilities old line recovered answer new n (steps.Faulty cause r none e f) is q = recovered_none recovered n none q
+step_recovered capabilities old line recovered answer new n (steps.NoMemory none e f) is q = recovered_none recovered n none q
+step_recovered capabilities old line recovered answer new n (steps.RestartWithoutMemory m o r none e f) is q = recovered_none recovered n none q
+step_recovered capabilities old line recovered answer new n (steps.Called m c o r b none step) is q = recovered_none recovered n none q
+step_recovered capabilities old line recovered answer new n (steps.RestartFailed m o r none e f) is q = recovered_none recovered n none q
+step_recovered capabilities old line recovered answer new n (steps.Restarted m o r told e f) is q =
+    between m.durable.lsn n old new (some_same m.durable.lsn n (sym told ∙ q))
+    (subst (λ s. least_number s ≤ m.durable.lsn) (sym o) (same m.durable.lsn))
+    (subst (λ s. m.durable.lsn ≤ least_number s) (sym f) (same m.durable.lsn))
+step_recovered capabilities old line recovered answer new n (steps.ReopenFailed a b c o r none e f) is q = recovered_none recovered n none q
+step_recovered capabilities old line recovered answer new n (steps.Reopened a b m c o r w told step) is q =
+    between m.durable.lsn n old new (some_same m.durable.lsn n (sym told ∙ q))
+    (subst (λ s. least_number s ≤ m.durable.lsn) (sym o) (found_number a b m w (subst IsState o is)))
+    (reopened_number capabilities (restarted m) c answer new step)

@@ -15,7 +15,8 @@ pub use meaning::{
     the_shape_after_a_call_is_known_from_the_shape,
 };
 pub use steps::{
-    a_run_goes_on_by_one_line, a_run_keeps_states, a_step_keeps_arrays_well_formed,
-    a_step_keeps_states, every_reply_of_a_step_has_a_text, log_numbers_never_fall,
+    a_recovered_number_is_between_those_of_the_states, a_run_goes_on_by_one_line,
+    a_run_keeps_states, a_step_keeps_arrays_well_formed, a_step_keeps_states,
+    every_reply_of_a_step_has_a_text, log_numbers_never_fall,
 };
 pub use table::the_reply_to_a_restart;

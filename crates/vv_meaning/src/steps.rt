@@ -1,5 +1,5 @@
 //! Steps and runs of the durable array.
-ghost use Rattle.std.specs.Prelude.{◌≡◌, ◌≤◌, ℕ, IsTrue, Ok, List, [], ◌∷◌, ◌++◌, Option};
+ghost use Rattle.std.specs.Prelude.{◌≡◌, ◌≤◌, ℕ, IsTrue, Some, Ok, List, [], ◌∷◌, ◌++◌, Option};
 ghost use Rattle.vv_flat.specs.Profiles.{Capability};
 ghost use Rattle.vv_reply.specs.declared.reply.Reply.{Reply};
 ghost use Rattle.vv_reply.specs.Replies.{FitsReply};
@@ -24,6 +24,13 @@ pub fn a_run_keeps_states()
 pub fn log_numbers_never_fall()
     ensures { (capabilities : List Capability) → (old : State) → (line : List ℕ) → (recovered : Option ℕ) → (answer : Reply) → (new : State)
         → Step capabilities old line recovered answer new → IsState old → least_number old ≤ least_number new }
+{}
+
+/// A number that is told as recovered is no lower than that of the state before, and no higher than that of the state after.
+pub fn a_recovered_number_is_between_those_of_the_states()
+    ensures { (capabilities : List Capability) → (old : State) → (line : List ℕ) → (recovered : Option ℕ) → (answer : Reply) → (new : State)
+        → (n : ℕ) → Step capabilities old line recovered answer new → IsState old → recovered ≡ Some n
+        → (least_number old ≤ n) × (n ≤ least_number new) }
 {}
 
 /// Each reply of a step from well-formed arrays has a text.

@@ -4,3 +4,4 @@ pub mod ByteDays
 pub mod Deeds
 pub mod Moves
 pub mod Fitting
+pub mod Filled

@@ -6,6 +6,7 @@
 mod meaning;
 mod steps;
 mod table;
+mod tables;
 
 pub use meaning::{
     a_call_keeps_an_array_well_formed, a_call_keeps_the_volatile_form,
@@ -20,3 +21,4 @@ pub use steps::{
     every_reply_of_a_step_has_a_text, log_numbers_never_fall,
 };
 pub use table::the_reply_to_a_restart;
+pub use tables::{tables_are_asked_as_their_flat_array, tables_reply_as_their_flat_array};

@@ -13,7 +13,7 @@ pub use meaning::{
     a_call_that_is_not_journaled_leaves_the_durable_part,
     a_call_without_a_command_leaves_all_unless_it_is_journaled, a_change_is_answered_by_the_shape,
     a_journaled_call_takes_the_next_log_number, arrays_of_one_shape_reply_alike_but_for_bytes,
-    the_shape_after_a_call_is_known_from_the_shape,
+    every_reply_of_a_well_formed_array_has_a_text, the_shape_after_a_call_is_known_from_the_shape,
 };
 pub use steps::{
     a_recovered_number_is_between_those_of_the_states, a_run_goes_on_by_one_line,

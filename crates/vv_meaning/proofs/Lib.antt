@@ -3,3 +3,5 @@ pub mod FurtherDays
 pub mod ByteDays
 pub mod Deeds
 pub mod Moves
+pub mod Fitting
+pub mod Filled

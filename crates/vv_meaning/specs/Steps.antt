@@ -7,6 +7,7 @@ use Rattle.vv_flat.specs.Lists.{if_found}
 use Rattle.vv_flat.specs.State.{Task, Durable, Array, task_of}
 use Rattle.vv_flat.specs.Chunks.{ChunkValue, shape}
 use Rattle.vv_flat.specs.Space.{is_running, is_clone}
+use Rattle.vv_flat.specs.FlatForm.{is_well_formed_array}
 use Rattle.vv_flat.specs.Restart.{restarted}
 use Rattle.vv_flat.specs.Profiles.{Capability}
 use Rattle.vv_flat.specs.Changes.{Change, Write, Turn}
@@ -72,6 +73,16 @@ pub data State : Type 0 where
 abbrev pub IsState : State → Type 0
 IsState (Up m) = ⊤
 IsState (Down a b) = (a ≡ b) ⊎ (b.durable.lsn ≡ a.durable.lsn + 1)
+
+-- the log number that it has at least
+abbrev pub least_number : State → ℕ
+least_number (Up m) = m.durable.lsn
+least_number (Down a b) = a.durable.lsn
+
+-- each array of a state is well-formed
+abbrev pub is_well_formed_state : State → Bool
+is_well_formed_state (Up m) = is_well_formed_array m.durable
+is_well_formed_state (Down a b) = is_well_formed_array a.durable && is_well_formed_array b.durable
 
 abbrev pub no_memory : Reply
 no_memory = Refused fault.NoMemory

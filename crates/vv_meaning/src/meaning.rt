@@ -9,6 +9,7 @@ ghost use Rattle.vv_flat.specs.Answers.{answer};
 ghost use Rattle.vv_laws.specs.VolatileForm.{has_volatile_form};
 ghost use Rattle.vv_calls.specs.declared.call.Call.{Call};
 ghost use Rattle.vv_calls.specs.Formed.{IsFormed};
+ghost use Rattle.vv_reply.specs.Replies.{FitsReply};
 ghost use Rattle.vv_meaning.specs.Forms.{call_has_forms, is_command_call};
 ghost use Rattle.vv_meaning.specs.Meaning.{array_shape, blocks_at, verdict_on, reply, next, next_shape};
 ghost use Rattle.vv_meaning.specs.Steps.{is_journaled};
@@ -61,4 +62,10 @@ pub fn a_call_that_is_not_journaled_leaves_the_durable_part()
 pub fn a_call_without_a_command_leaves_all_unless_it_is_journaled()
     ensures { (capabilities : List Capability) → (a : Array ChunkValue) → (c : Call) → IsFalse (is_command_call c)
         → IsFalse (is_journaled capabilities a c) → next capabilities a c ≡ a }
+{}
+
+/// Each reply of a well-formed array has a text: its identifiers have numbers that have texts, and its lists are short.
+pub fn every_reply_of_a_well_formed_array_has_a_text()
+    ensures { (capabilities : List Capability) → (a : Array ChunkValue) → (c : Call) → IsTrue (is_well_formed_array a.durable)
+        → FitsReply (reply capabilities a c) }
 {}

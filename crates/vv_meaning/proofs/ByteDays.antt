@@ -93,6 +93,15 @@ still : map (moves_blocks [] small)
 unfolding moves_blocks small judge misfit_in used reserved free charge decoded ranges_in decided unit_at
 still = refl
 
+-- No log number is left: a write that is refused moves none.
+spent : Array ChunkValue
+unfolding small
+spent = let d = small.durable in record small { durable = record d { lsn = 4611686018427387903 } }
+
+refused : map (moves_blocks [] spent) (write 0 1 ∷ write_same 0 1 ∷ compare_and_write 0 1 2 ∷ []) ≡ replicate 3 false
+unfolding moves_blocks spent small judge misfit_in used reserved free charge decoded ranges_in decided unit_at
+refused = refl
+
 -- Journaled are the calls that change something durable.
 journaled : map (is_journaled [] (after small (write 0 1 ∷ [])))
     (write 0 1 ∷ unmap 1 0 8 ∷ unbind 1 ∷ write 0 0 ∷ unmap 1 0 7 ∷ unmap 1 8 8 ∷ read 0 1 ∷ compare_and_write 0 0 1 ∷ serve

@@ -3,6 +3,8 @@
 
 mod call;
 mod copies;
+#[cfg(test)]
+mod field_tests;
 mod fields;
 mod forms;
 mod hexadecimal;

@@ -1,3 +1,4 @@
 pub mod FieldNames
 pub mod RunLemmas
 pub mod Joining
+pub mod RisingNames

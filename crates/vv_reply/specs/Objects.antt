@@ -1,5 +1,7 @@
 -- Compact JSON: an object of named members in the order given, and lists. A value is given as its text.
-use Rattle.std.specs.Prelude.{ℕ, ◌==◌, List, [], ◌∷◌, ◌++◌, Bool, true, false, codes, decimal, if◌then◌else◌}
+use Rattle.std.specs.Prelude.{ℕ, ◌==◌, ◌&&◌, List, [], ◌∷◌, ◌++◌, Bool, true, false, codes, decimal, if◌then◌else◌}
+use Rattle.std.specs.Cmp.Lexicographic.{slice_cmp}
+use Rattle.std.specs.Ordering.{nat_cmp, is_lt}
 use Rattle.vv_units.specs.Identifiers.{identifier_text}
 
 -- the most bytes of a line
@@ -49,3 +51,9 @@ opened (member ∷ members) = behind (codes "{" ++ key member.0 ++ member.1) mem
 -- an object as a line
 abbrev pub object : List (List ℕ × List ℕ) → List ℕ
 object members = opened members ++ codes "}\n"
+
+-- whether the names of members stand in the order of their bytes, each once
+abbrev pub names_rise : List (List ℕ × List ℕ) → Bool
+names_rise [] = true
+names_rise (member ∷ []) = true
+names_rise (member ∷ next ∷ members) = is_lt (slice_cmp nat_cmp member.0 next.0) && names_rise (next ∷ members)

@@ -1,3 +1,4 @@
 pub mod LineLemmas
 pub mod ReaderLemmas
 pub mod TakingLemmas
+pub mod EndedLemmas

@@ -1,9 +1,9 @@
 -- What a reader of lines took and gave, call by call: for the loop of its `next`.
-use Rattle.std.proofs.Common.{◌≡◌, ℕ, ◌+◌, ◌-◌, ◌<◌, ◌≤◌, ◌++◌, List, [], Bool, true, false, cond, refl, sym, ap, ◌∙◌, length, arith, append_assoc, length-append, Some, None, Ok, Err, inl, inr}
+use Rattle.std.proofs.Common.{◌≡◌, ℕ, ◌+◌, ◌-◌, ◌<◌, ◌≤◌, ◌++◌, List, [], Bool, true, false, cond, refl, sym, ap, ◌∙◌, length, arith, append_assoc, length-append, subst, Some, None, Ok, Err, inl, inr}
 use Rattle.std.specs.Prelude.{Option, ◌⊎◌}
 use Rattle.std.specs.Io.KnownBytes.{Consumes}
 use Rattle.vv_io.specs.Streams.{ConsumesOrForgets}
-use Rattle.vv_io.specs.Reading.{ReaderState, begun, lines_ahead, given_as, Gives, Took, script_limit}
+use Rattle.vv_io.specs.Reading.{ReaderState, begun, lines_ahead, given_as, Gives, Took, OnePast, script_limit}
 use Rattle.vv_io.specs.declared.line_answer.Next.{Next}
 
 pub consumes_nothing : (old : Option (List ℕ)) → Consumes old old []
@@ -123,3 +123,18 @@ pub progress_round : {E : Type 0} (old now new : ReaderState) (next : Option Nex
 progress_round old now new None before mid after so_far more is before_end =
     progress_more old now new None before mid after so_far more (λ at_end. absurd (cc))
 progress_round old now new (Some answer) before mid after so_far more is before_end = absurd (cc)
+
+-- one past the most of a script was taken, behind what was taken since the call began
+pub progress_past : (old now new : ReaderState) (before mid after : Option (List ℕ)) → Progress old now before mid → now.is_ended ≡ false
+    → OnePast now new mid after → OnePast old new before after
+progress_past old now new before mid after so_far before_end more = record {
+  front = so_far.bytes ++ more.front;
+  counted = omega (arith, so_far.counted, more.counted, length-append so_far.bytes more.front);
+  consumed =
+      let P : List ℕ → Type 0 = λ bytes. Consumes before after bytes in
+      subst P (sym (append_assoc so_far.bytes more.front new.waiting))
+      (consumes_more before mid after so_far.bytes (more.front ++ new.waiting) so_far.consumed more.consumed);
+  lines = λ rest. ap (lines_ahead old) (append_assoc so_far.bytes more.front rest)
+      ∙ so_far.lines (more.front ++ rest) (λ ended. absurd (cc))
+      ∙ more.lines rest;
+}

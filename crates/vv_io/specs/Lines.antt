@@ -27,3 +27,13 @@ lines_from limit begun (c ∷ bytes) =
 -- what is given for the lines of bytes
 abbrev pub lines_in : ℕ → List ℕ → List (Option (List ℕ))
 lines_in limit bytes = lines_from limit [] bytes
+
+-- what is given for those of the lines that end by LF, behind a line begun
+abbrev pub ended_from : ℕ → List ℕ → List ℕ → List (Option (List ℕ))
+ended_from limit begun [] = []
+ended_from limit begun (c ∷ bytes) =
+    if c == line_feed then given_for limit begun ++ ended_from limit [] bytes else ended_from limit (begun ++ c ∷ []) bytes
+
+-- what is given for those of the lines that end by LF
+abbrev pub ended_in : ℕ → List ℕ → List (Option (List ℕ))
+ended_in limit bytes = ended_from limit [] bytes

@@ -63,6 +63,13 @@ pub record Took {T E : Type 0} (old new : ReaderState) (result : Result T E) (gi
   pub lines : Gives old bytes given new
   pub same_limit : new.limit ≡ old.limit
 
+-- The bytes to the most of a script were taken and looked at, and gave no line; one more was taken, and waits.
+pub record OnePast (old new : ReaderState) (before after : Option (List ℕ)) : Type 0 where
+  pub front : List ℕ
+  pub counted : old.taken + length front ≡ script_limit
+  pub consumed : Consumes before after (front ++ new.waiting)
+  pub lines : (rest : List ℕ) → lines_ahead old (front ++ rest) ≡ lines_from new.limit (begun new) rest
+
 -- how many bytes stand before the first LF
 abbrev pub front_len : List ℕ → ℕ
 front_len bytes = prefix_len (λ b. not (b == line_feed)) bytes

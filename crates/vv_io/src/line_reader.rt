@@ -5,7 +5,7 @@ ghost use Rattle.std.specs.Io.KnownBytes.{Consumes, IsAtEnd};
 ghost use Rattle.vv_units.specs.Causes.{HasCause};
 ghost use Rattle.vv_io.specs.Streams.{KeepsOrForgets};
 ghost use Rattle.vv_io.specs.Lines.{given_for, has_more, lines_in};
-ghost use Rattle.vv_io.specs.Reading.{script_limit, new_reader, begun, lines_ahead, kept_of, front_len, after_cut, given_as, given_in, given_by, IsLine, IsAnswer, Gives, Took};
+ghost use Rattle.vv_io.specs.Reading.{script_limit, new_reader, begun, lines_ahead, kept_of, front_len, after_cut, given_as, given_in, given_by, IsLine, IsAnswer, Gives, Took, OnePast};
 
 use crate::{Next, Source};
 use std::alloc::Global;
@@ -93,6 +93,7 @@ impl LineReader {
         // One byte past the most of a script was taken, and all before it was looked at.
         ensures too_much { result ≡ Ok Next.TooMuch → (self.new.taken ≡ script_limit + 1) × (length self.new.waiting ≡ 1) × (self.new.is_ended ≡ false) }
         ensures past { script_limit < self.new.taken → result ≡ Ok Next.TooMuch }
+        ensures one_past { result ≡ Ok Next.TooMuch → self.old.taken ≤ script_limit → OnePast self.old self.new (S.left source.old) (S.left source.new) }
         ensures after_past { script_limit < self.old.taken → source.new ≡ source.old }
 
         // The source failed, and all that was taken was looked at.
@@ -116,6 +117,7 @@ impl LineReader {
         ensures end { result ≡ Ok (Some Next.End) → lines_ahead self.new [] ≡ [] }
         ensures ungiven { result ≡ Ok None → (self.new.is_given ≡ false) × (self.old.is_ended ≡ false) }
         ensures less { result ≡ Ok None → (self.new.is_ended ≡ true) ⊎ (self.old.taken < self.new.taken) }
+        ensures past { result ≡ Ok None → script_limit < self.new.taken → OnePast self.old self.new (S.left source.old) (S.left source.new) }
         ensures given { IfOk result (λ next. IfSome next (λ answer. (self.new.taken ≡ self.old.taken) × (source.new ≡ source.old) × IsAnswer answer self.new.is_ended)) }
         ensures ended { self.old.is_ended ≡ true → (source.new ≡ source.old) × (self.new.is_ended ≡ true) × (self.new.taken ≡ self.old.taken) }
         ensures at_end { self.new.is_ended ≡ true → self.old.is_ended ≡ false → IsAtEnd (S.left source.new) }
@@ -234,6 +236,7 @@ impl LineReader {
         ensures same { self.new ≡ record self.old { waiting = self.new.waiting; taken = self.old.taken + length self.new.waiting; is_ended = self.new.is_ended } }
         ensures ok { OnOk result (Consumes (S.left source.old) (S.left source.new) self.new.waiting) }
         ensures end { OnOk result (self.new.is_ended ≡ (length self.new.waiting == 0)) }
+        ensures past { script_limit < self.new.taken → self.old.taken ≡ script_limit }
         ensures at_end { self.new.is_ended ≡ true → IsAtEnd (S.left source.new) }
         ensures err { OnErr result (KeepsOrForgets (S.left source.old) (S.left source.new) × (self.new ≡ self.old)) }
         ensures cause { HasCause (S.faults source.old) (S.faults source.new) result }

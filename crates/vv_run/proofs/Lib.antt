@@ -1,4 +1,4 @@
-pub mod LineLemmas
 pub mod WordLemmas
 pub mod StreamLemmas
+pub mod ReadingLemmas
 pub mod ServingLemmas

@@ -1,10 +1,9 @@
--- What a source gave and a sink took, piece by piece: for the loops that read a script and write a reply.
-use Rattle.std.proofs.Common.{◌≡◌, ℕ, ◌<◌, ◌≤◌, ◌++◌, List, [], length, take, drop, refl, sym, ap, ◌∙◌, arith, append_assoc, append-nil, Some, None, subst}
+-- What a sink took, piece by piece: for the loop that writes a reply.
+use Rattle.std.proofs.Common.{◌≡◌, ℕ, ◌<◌, ◌++◌, List, [], length, take, drop, refl, sym, ap, ◌∙◌, append_assoc, append-nil, Some, None, subst}
 use Rattle.std.specs.Prelude.{Option}
-use Rattle.std.specs.Io.KnownBytes.{Appends, Consumes}
+use Rattle.std.specs.Io.KnownBytes.{Appends}
 use Rattle.std.proofs.lemmas.List.{take-append-drop}
-use Rattle.vv_units.specs.Causes.{Rose}
-use Rattle.vv_io.specs.Streams.{KeepsOrForgets, ConsumesOrForgets}
+use Rattle.vv_io.specs.Streams.{KeepsOrForgets}
 use Rattle.vv_run.specs.Writing.{AppendsOrForgets, StopsWithin}
 
 pub appends_nothing : (old : Option (List ℕ)) → Appends old old []
@@ -56,24 +55,3 @@ stops old now new bytes rest before some keeps = record {
   proper = some;
   taken = appends_then_stops old now new before.part before.taken keeps;
 }
-
--- a count that rose later rose since before
-pub rose_since : (before now new : ℕ) → before ≤ now → Rose now new → Rose before new
-rose_since before now new later rose = omega arith
-
-pub consumes_nothing : (old : Option (List ℕ)) → Consumes old old []
-consumes_nothing None = tt
-consumes_nothing (Some xs) = refl
-
-pub consumes_more : (a b c : Option (List ℕ)) (xs ys : List ℕ) → Consumes a b xs → Consumes b c ys → Consumes a c (xs ++ ys)
-consumes_more None b c xs ys first second = tt
-consumes_more (Some us) None c xs ys first second = absurd first
-consumes_more (Some us) (Some vs) None xs ys first second = absurd second
-consumes_more (Some us) (Some vs) (Some ws) xs ys first second =
-    first ∙ ap (λ (back : List ℕ). xs ++ back) second ∙ sym (append_assoc xs ys ws)
-
-pub consumes_then_stops : (a b c : Option (List ℕ)) (xs : List ℕ) → Consumes a b xs → KeepsOrForgets b c → ConsumesOrForgets a c xs
-consumes_then_stops None b c xs first second = tt
-consumes_then_stops (Some us) None c xs first second = absurd first
-consumes_then_stops (Some us) (Some vs) None xs first second = (vs, first)
-consumes_then_stops (Some us) (Some vs) (Some ws) xs first second = first ∙ ap (λ (back : List ℕ). xs ++ back) (sym second)

@@ -1,4 +1,5 @@
 pub mod Lines
+pub mod Reading
 pub mod Words
 pub mod Writing
 pub mod Status

@@ -12,7 +12,7 @@ use Rattle.vv_run.specs.Lines.{ended_lines_of}
 use Rattle.vv_reply.specs.declared.reply.Reply.{Reply}
 
 -- one step after another, one for each line
-abbrev pub Run : State → List (List ℕ) → List Reply → State → Type 0
+abbrev pub Run : State → List (Option (List ℕ)) → List Reply → State → Type 0
 Run old [] [] new = new ≡ old
 Run old (line ∷ lines) (reply ∷ replies) new = (mid : State) × Step old line reply mid × Run mid lines replies new
 Run old [] (reply ∷ replies) new = ⊥
@@ -22,17 +22,17 @@ abbrev pub texts_of : List Reply → List ℕ
 texts_of replies = flat_map text_of replies
 
 -- The lines were answered in order from the empty array on, and the sink took exactly the texts of the replies.
-pub record Answered (lines : List (List ℕ)) (before after : Option (List ℕ)) : Type 0 where
+pub record Answered (lines : List (Option (List ℕ))) (before after : Option (List ℕ)) : Type 0 where
   pub replies : List Reply
   pub last : State
   pub run : Run empty_array lines replies last
   pub written : Appends before after (texts_of replies)
 
 -- Some of the lines were answered, and of the reply to the last of them the sink took only a part.
-pub record CutShort (lines : List (List ℕ)) (before after : Option (List ℕ)) : Type 0 where
-  pub served : List (List ℕ)
-  pub line : List ℕ
-  pub unserved : List (List ℕ)
+pub record CutShort (lines : List (Option (List ℕ))) (before after : Option (List ℕ)) : Type 0 where
+  pub served : List (Option (List ℕ))
+  pub line : Option (List ℕ)
+  pub unserved : List (Option (List ℕ))
   pub all : served ++ (line ∷ unserved) ≡ lines
   pub replies : List Reply
   pub last : State
@@ -47,13 +47,13 @@ pub record CutShort (lines : List (List ℕ)) (before after : Option (List ℕ))
   pub written : AppendsOrForgets before after (texts_of replies ++ part)
 
 -- A line was answered, and the sink took the text of its reply.
-pub record LineAnswered (old : State) (line : List ℕ) (before after : Option (List ℕ)) (new : State) : Type 0 where
+pub record LineAnswered (old : State) (line : Option (List ℕ)) (before after : Option (List ℕ)) (new : State) : Type 0 where
   pub reply : Reply
   pub step : Step old line reply new
   pub written : Appends before after (text_of reply)
 
 -- A line was answered, and the sink took only a part of the text of its reply.
-pub record LineCut (old : State) (line : List ℕ) (before after : Option (List ℕ)) (new : State) : Type 0 where
+pub record LineCut (old : State) (line : Option (List ℕ)) (before after : Option (List ℕ)) (new : State) : Type 0 where
   pub reply : Reply
   pub step : Step old line reply new
   pub stops : StopsWithin before after (text_of reply)

@@ -105,6 +105,11 @@ abbrev pub answer : State → Result Call LineFault → Reply × State
 answer s (Err e) = (a_reply.Line e, s)
 answer s (Ok call) = served s call
 
+-- what a line asks for, or why it asks for none
+abbrev pub call_in : Option (List ℕ) → Result Call LineFault
+call_in None = Err fault.LineTooLong
+call_in (Some line) = line_reading line
+
 -- From an array a line may get this reply and leave that array. Want of memory may come at any line, and changes nothing.
-abbrev pub Step : State → List ℕ → Reply → State → Type 0
-Step old line reply new = ((reply ≡ no_memory) × (new ≡ old)) ⊎ ((reply, new) ≡ answer old (line_reading line))
+abbrev pub Step : State → Option (List ℕ) → Reply → State → Type 0
+Step old line reply new = ((reply ≡ no_memory) × (new ≡ old)) ⊎ ((reply, new) ≡ answer old (call_in line))

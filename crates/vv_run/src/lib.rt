@@ -1,9 +1,9 @@
-//! The top call: a script's lines are answered one after another.
+//! The top call: a script's lines are answered one after another, each before the next is read.
 #![tactic(auto)]
 
 mod array;
-mod lines;
-mod script;
+mod buffers;
+mod reading;
 mod serving;
 mod status;
 mod top_call;

@@ -13,7 +13,7 @@ pub enum Status {
     SourceFault,
     /// The sink failed.
     SinkFault,
-    /// There was no memory outside a line's own reply. Nothing was written.
+    /// There was no memory outside a line's own reply. Nothing was read or written.
     NoMemory,
     /// A byte past 2^30 of the script was taken. All whole lines before it are answered.
     TooMuch,

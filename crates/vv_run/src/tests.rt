@@ -202,6 +202,22 @@ fn pieces_faults_and_words(rt: HostRuntime) -> Result<(), Fail> {
 }
 
 #[test]
+fn a_reply_is_written_before_the_next_line_is_read(rt: HostRuntime) -> Result<(), Fail> {
+    let alloc = rt.alloc();
+    let bytes = joined(alloc, &[CREATE, "\n", BIND, "\n"])?.into_bytes();
+    let piece = CREATE.len() + 1;
+    let mut source = MemSource::new(bytes, piece, Vec::new(alloc));
+    let mut sink = MemSink::new(alloc, 4096, [0].to_vec(alloc)?)?;
+    let words = words(alloc, WORDS)?;
+    let status = run(alloc, &words, &mut source, &mut sink);
+    assert_eq!(rt; status, Status::SinkFault);
+    // Nothing of the second line, which is longer, was read.
+    let mut into = [0; 512];
+    assert_eq!(rt; vv_io::Source::read(&mut source, &mut into), Ok(piece));
+    Ok(())
+}
+
+#[test]
 fn statuses_have_their_codes(rt: HostRuntime) {
     let codes = [
         (Status::Done, 0),

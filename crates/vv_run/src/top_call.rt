@@ -1,24 +1,22 @@
 //! The top call.
-ghost use Rattle.std.specs.Prelude.{◌≡◌, ◌≢◌, ◌⊎◌, ◌↔◌, ◌<◌, ◌≤◌, map, true, false, Some, drop, ◌+◌, length, take, string_bytes, IfSome, OnOk, OnErr};
-ghost use Rattle.std.specs.Io.KnownBytes.{Consumes, IsAtEnd};
+ghost use Rattle.std.specs.Prelude.{◌≡◌, ◌≢◌, ◌⊎◌, ◌↔◌, ◌<◌, ◌≤◌, map, true, false, Some, drop, ◌+◌, length, take, string_bytes, IfSome};
+ghost use Rattle.std.specs.Io.KnownBytes.{IsAtEnd};
 ghost use Rattle.vv_units.specs.Causes.{Rose};
-ghost use Rattle.vv_run.specs.Lines.{lines_of, ended_lines_of};
+ghost use Rattle.vv_run.specs.Lines.{lines_of, ended_lines_of, lines_answered};
 ghost use Rattle.vv_io.specs.Reading.{script_limit};
 ghost use Rattle.vv_run.specs.Runs.{Answered, CutShort, AnsweredFront};
 ghost use Rattle.vv_run.specs.Words.{are_words};
 
 use crate::Status;
-use crate::lines::whole_lines;
-use crate::script::{Ending, SCRIPT_LIMIT, read_script};
-use crate::serving::serve_lines;
+use crate::buffers::Buffers;
+use crate::serving::serve_script;
 use crate::words::are_words;
 use std::alloc::Global;
 use vv_io::{Sink, Source};
-use vv_reply::ReplyBuffer;
-use vv_units::Failed;
+use vv_units::NoMemory;
 
-/// Runs the program: with the words `new PATH CHUNKS BLOCKS MAP` it reads a script from the source and writes the
-/// replies to its lines to the sink.
+/// Runs the program: with the words `new PATH CHUNKS BLOCKS MAP` it reads a script from the source line by line, and
+/// writes the reply to each line to the sink before it reads the next.
 pub fn run<S: Source, K: Sink>(
     alloc: Global,
     words: &[String],
@@ -29,7 +27,8 @@ pub fn run<S: Source, K: Sink>(
     ensures bad_words { (result ≡ Status.BadWords) ↔ (are_words (map (λ word. string_bytes word) words.now) ≡ false) }
     ensures untouched { result ≡ Status.BadWords → (source.new ≡ source.old) × (sink.new ≡ sink.old) }
 
-    // Nothing is written where there is no memory for the script.
+    // Nothing is read and nothing is written where there is no memory for the buffers.
+    ensures unread { result ≡ Status.NoMemory → source.new ≡ source.old }
     ensures unwritten { result ≡ Status.NoMemory → sink.new ≡ sink.old }
 
     // The script was read to its end, and each of its lines was answered.
@@ -49,18 +48,18 @@ pub fn run<S: Source, K: Sink>(
     ensures past_the_limit { result ≡ Status.TooMuch → IfSome (S.left source.old) (λ told.
         (script_limit < length told) × (S.left source.new ≡ Some (drop (script_limit + 1) told))) }
 
-    // The sink failed, and took a part of the reply to one of the lines.
+    // The sink failed, and took a part of the reply to one of the lines that would have been answered.
     ensures sink_fault { result ≡ Status.SinkFault → Rose (K.faults sink.old) (K.faults sink.new) }
     ensures before_sink_fault { result ≡ Status.SinkFault → IfSome (S.left source.old) (λ told.
-        CutShort (lines_of told) (K.taken sink.old) (K.taken sink.new)) }
+        CutShort (lines_answered told) (K.taken sink.old) (K.taken sink.new)) }
 
     // With no fault it reads a script within the limit to its end, unless there is no memory.
     ensures complete { are_words (map (λ word. string_bytes word) words.now) ≡ true → IfSome (S.left source.old) (λ told.
         length told ≤ script_limit → ¬ (Rose (S.faults source.old) (S.faults source.new)) → ¬ (Rose (K.faults sink.old) (K.faults sink.new))
         → (result ≡ Status.Done) ⊎ (result ≡ Status.NoMemory)) }
 
-    // No fault is passed over: where the status tells none, no count rose, and where it isn't the sink's, the sink's didn't.
-    ensures no_source_fault { result ≢ Status.SourceFault → result ≢ Status.SinkFault → S.faults source.new ≡ S.faults source.old }
+    // No fault is passed over: where the status tells none, no count rose.
+    ensures no_source_fault { result ≢ Status.SourceFault → S.faults source.new ≡ S.faults source.old }
     ensures no_sink_fault { result ≢ Status.SinkFault → K.faults sink.new ≡ K.faults sink.old }
 
     // Counts of faults don't fall.
@@ -70,34 +69,8 @@ pub fn run<S: Source, K: Sink>(
     if !are_words(words) {
         return Status::BadWords;
     }
-    let Ok(mut buffer) = ReplyBuffer::new(alloc) else {
-        return Status::NoMemory;
-    };
-    let mut script = Vec::new(alloc);
-    let ending = read_script(source, &mut script);
-    match ending {
-        Ending::End => status_of(serve_lines(alloc, &mut buffer, &script, sink), Status::Done),
-        Ending::Fault => status_of(
-            serve_lines(alloc, &mut buffer, whole_lines(&script), sink),
-            Status::SourceFault,
-        ),
-        Ending::TooMuch => {
-            let (front, _) = script.split_at(SCRIPT_LIMIT);
-            status_of(
-                serve_lines(alloc, &mut buffer, whole_lines(front), sink),
-                Status::TooMuch,
-            )
-        }
-        Ending::NoMemory => Status::NoMemory,
-    }
-}
-
-fn status_of(served: Result<(), Failed>, status: Status) -> Status
-    ensures ok { OnOk served (result ≡ status) }
-    ensures err { OnErr served (result ≡ Status.SinkFault) }
-{
-    match served {
-        Ok(()) => status,
-        Err(Failed) => Status::SinkFault,
+    match Buffers::new(alloc) {
+        Ok(mut buffers) => serve_script(alloc, source, sink, &mut buffers),
+        Err(NoMemory) => Status::NoMemory,
     }
 }

@@ -1,6 +1,6 @@
 use Rattle.std.proofs.Common.{◌≡◌, ap, ◌∙◌, arith, Ok, false}
 use Rattle.vv_io.specs.Reading.{ReaderState}
-use Rattle.vv_io.proofs.TakingLemmas.{progress_round}
+use Rattle.vv_io.proofs.TakingLemmas.{progress_round, progress_past}
 use Rattle.vv_io.proofs.line_reader.LineReader.next.Goals as goal
 
 pub loop-self-preserved : goal.loop-self-preserved
@@ -17,5 +17,8 @@ loop-self-preserved g c =
       kept = more.cause.kept ∙ c.loop-self.invariant.kept;
       at_end = λ ended before. more.at_end ended before_end;
       after_end = λ ended. let was = (c.loop-self.invariant.after_end ended).1 in absurd (cc);
+      one_past = λ over within. progress_past c.args.self.now c.loop-self.self c.round.new.self
+          (source.left c.args.source.now) (source.left c.loop-self.source) (source.left c.round.new.source)
+          c.loop-self.invariant.progress before_end (more.past none over);
       after_past = λ past. let count = c.loop-self.invariant.progress.counted in let within = c.loop-self-test.true in let seen = ap (λ (s : ReaderState). s.taken) c.self.view_is in absurd (omega arith);
     }

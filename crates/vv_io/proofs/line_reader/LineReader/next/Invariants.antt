@@ -1,6 +1,6 @@
-use Rattle.std.proofs.Common.{◌≡◌, ◌+◌, ◌-◌, ◌<◌, true, false, cond}
+use Rattle.std.proofs.Common.{◌≡◌, ◌+◌, ◌-◌, ◌<◌, ◌≤◌, true, false, cond}
 use Rattle.std.specs.Io.KnownBytes.{IsAtEnd}
-use Rattle.vv_io.specs.Reading.{script_limit}
+use Rattle.vv_io.specs.Reading.{script_limit, OnePast}
 use Rattle.vv_io.proofs.TakingLemmas.{Progress}
 use Rattle.vv_io.proofs.line_reader.LineReader.next.Given as goal
 
@@ -13,6 +13,8 @@ invariant-loop-self g l =
       kept : source.faults l.source ≡ source.faults l.fn.source;
       at_end : l.self.is_ended ≡ true → l.fn.self.is_ended ≡ false → IsAtEnd (source.left l.source);
       after_end : l.fn.self.is_ended ≡ true → (l.source ≡ l.fn.source) × (l.self.is_ended ≡ true) × (l.self.taken ≡ l.fn.self.taken);
+      one_past : script_limit < l.self.taken → l.fn.self.taken ≤ script_limit
+          → OnePast l.fn.self l.self (source.left l.fn.source) (source.left l.source);
       after_past : script_limit < l.fn.self.taken → l.source ≡ l.fn.source;
     }
 

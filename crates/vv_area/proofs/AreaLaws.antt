@@ -1,18 +1,18 @@
 -- The laws of the spelling of tables.
-use Rattle.std.proofs.Common.{◌≡◌, ℕ, ◌+◌, ◌&&◌, Bool, true, false, cond, eqb, nat_le, List, [], ◌∷◌, ◌++◌, length, take, drop, Ok, Err, refl, sym, ap, subst, ◌∙◌, append_assoc, arith}
+use Rattle.std.proofs.Common.{◌≡◌, ℕ, ◌&&◌, Bool, true, false, cond, eqb, nat_le, List, [], ◌∷◌, ◌++◌, length, take, drop, Ok, Err, refl, sym, ap, subst, ◌∙◌, append_assoc, arith}
 use Rattle.std.proofs.lemmas.Bool.{and_parts, and_from, eqb-true, eq-eqb, le-leb}
 use Rattle.std.proofs.lemmas.List.{append-nil, drop_all}
 use Rattle.std.specs.List.{flat_map, list_all}
 use Rattle.vv_fields.specs.Fields.{ReaderState, AreBytes}
 use Rattle.vv_units.specs.declared.geometry.Geometry.{Geometry}
-use Rattle.vv_record.specs.Reading.{Form, Reading, Read, Fault, then_read, ◌>>=◌, done}
+use Rattle.vv_record.specs.Reading.{Reading, Read, Fault, then_read, done}
 use Rattle.vv_record.specs.Records.{ended}
 use Rattle.vv_record.proofs.Stands.{Stands, Stands-then, Stands-front, Stands-nothing, Stands-here, IsReader, IsReader-behind, moved, then_read_is}
 use Rattle.vv_record.proofs.Spells.{Spells, number_spells, done_is}
 use Rattle.vv_flat.specs.State.{Task, RunningClone, RunningCopy, Durable}
 use Rattle.vv_flat.specs.Space.{is_running, is_clone}
 use Rattle.vv_flat.specs.Chunks.{Entry}
-use Rattle.vv_area.specs.Forms.{running_clone, running_copy, Runs, no_runs, with_clone, with_copy, next_clone, next_copy, next_run, runs, tables}
+use Rattle.vv_area.specs.Forms.{running_clone, running_copy, Runs, no_runs, with_clone, with_copy, next_clone, next_copy, runs, tables}
 use Rattle.vv_area.specs.Spelling.{clone_spelling, copy_spelling, runs_spelling, area_spelling, is_clone_row, is_clone_of, are_pieces, is_copy_of, are_runs, is_spellable}
 use Rattle.vv_area.specs.Area.{tables_in}
 use Rattle.vv_area.proofs.Rests.{SpellsRest, then_rest, done_rest, same_rest}

@@ -1,8 +1,8 @@
 -- How long spellings are.
-use Rattle.std.proofs.Common.{◌≡◌, ℕ, suc, ◌+◌, ◌-◌, ◌*◌, ◌^◌, ◌<◌, ◌≤◌, ◌&&◌, Bool, true, false, cond, eqb, leb, not, List, [], ◌∷◌, ◌++◌, map, length, take, drop, Option, Some, None, refl, sym, ap, subst, ◌∙◌, arith, length-append}
+use Rattle.std.proofs.Common.{◌≡◌, ℕ, suc, ◌+◌, ◌*◌, ◌^◌, ◌≤◌, ◌&&◌, Bool, true, false, cond, eqb, leb, List, [], ◌∷◌, ◌++◌, length, take, drop, Option, Some, None, refl, ap, arith, length-append}
 use Rattle.std.specs.Prelude.{sum_by}
 use Rattle.std.specs.List.{list_all, flat_map, concat}
-use Rattle.std.proofs.lemmas.Bool.{and_parts, and_from, eqb-true, leb-true, ltb-true}
+use Rattle.std.proofs.lemmas.Bool.{and_parts, eqb-true, ltb-true}
 use Rattle.std.proofs.lemmas.List.Sums.{sum_by-cons}
 use Rattle.vv_fields.specs.Fields.{be_bytes}
 use Rattle.vv_fields.proofs.ByteLemmas.{length-be_bytes}
@@ -11,13 +11,12 @@ use Rattle.vv_units.specs.declared.volume.Offer.{Offer}
 use Rattle.vv_units.specs.declared.volume.Need.{Need}
 use Rattle.vv_units.specs.declared.numbers.EndpointId.{EndpointId}
 use Rattle.vv_record.specs.Spelling.{text_spelling, list_spelling, type_number, offer_spelling, need_spelling, endpoint_spelling, offers_spelling, needs_spelling, endpoints_spelling, are_offers, are_needs, are_endpoints, each_behind, fits}
-use Rattle.vv_record.proofs.Passing.{between}
 use Rattle.vv_record.proofs.Lengths.{length-text, length-list, length-offers, length-needs, length-endpoints, length-key, length-note}
 use Rattle.vv_flat.specs.State.{Container, Volume, Context, Address, Binding, Job, Clone, Copy, Task, RunningClone, Piece, RunningCopy, Durable}
 use Rattle.vv_flat.specs.Chunks.{Entry}
 use Rattle.vv_flat.specs.Space.{is_running, is_clone}
 use Rattle.vv_area.specs.Spelling.{container_spelling, kind_number, source_number, kind_spelling, reverted_spelling, pair_spelling, metadata_spelling, place_spelling, entry_spelling, entries_spelling, volume_spelling, as_endpoints, context_spelling, address_spelling, binding_spelling, job_spelling, state_number, task_spelling, clone_spelling, piece_spelling, copy_spelling, runs_spelling, area_spelling, is_pair_behind, are_pairs, is_container_behind, are_containers, is_volume_behind, are_volumes, is_context_behind, are_contexts, are_bindings, are_tasks, is_clone_row, is_clone_of, is_copy_of, are_runs, is_spellable}
-use Rattle.vv_area.specs.Lengths.{offers_length, needs_length, metadata_length, entries_length, container_length, reverted_length, volume_length, context_length, binding_length, job_length, task_length, clone_length, copy_length, area_length, area_limit}
+use Rattle.vv_area.specs.Lengths.{offers_length, needs_length, metadata_length, entries_length, container_length, volume_length, context_length, binding_length, job_length, task_length, clone_length, copy_length, area_length, area_limit}
 use Rattle.vv_flat.specs.Chunks.{shape_of_tables}
 use Rattle.vv_flat.specs.Space.{entries as entries_in}
 use Rattle.vv_flat.specs.Form.{is_formed}

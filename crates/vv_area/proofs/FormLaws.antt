@@ -1,23 +1,22 @@
 -- Each form of the tables reads exactly what is spelled so.
-use Rattle.std.proofs.Common.{◌≡◌, ℕ, zero, suc, ◌-◌, ◌^◌, ◌<◌, ◌≤◌, ◌&&◌, ◌||◌, Bool, true, false, cond, eqb, not, List, [], ◌∷◌, ◌++◌, map, length, Option, Some, None, refl, sym, ap, subst, ◌∙◌, arith}
-use Rattle.std.proofs.lemmas.Bool.{and_parts, and_from, ltb-true, lt-ltb, le-leb, eqb-true, eqb-false}
+use Rattle.std.proofs.Common.{◌≡◌, ℕ, zero, suc, ◌^◌, ◌<◌, ◌≤◌, ◌&&◌, Bool, true, false, cond, eqb, not, List, [], ◌∷◌, ◌++◌, length, Option, Some, None, refl, sym, ap, subst, ◌∙◌, arith}
+use Rattle.std.proofs.lemmas.Bool.{and_parts, and_from, ltb-true, lt-ltb, eqb-true, eqb-false}
 use Rattle.std.proofs.lemmas.List.{append-nil}
-use Rattle.std.specs.List.{flat_map, list_all}
+use Rattle.std.specs.List.{flat_map}
 use Rattle.vv_fields.specs.Fields.{ReaderState, be_bytes}
-use Rattle.vv_units.specs.Names.{is_key, is_note}
+use Rattle.vv_units.specs.Names.{is_key}
 use Rattle.vv_units.specs.declared.numbers.EndpointId.{EndpointId}
 use Rattle.vv_units.specs.declared.volume.VolumeKind.{VolumeKind}
 use Rattle.vv_units.specs.declared.volume.VolumeKind.TheVariants.{Plain, SnapshotOf, FastCloneOf, FullCloneOf}
 use Rattle.vv_units.specs.declared.volume.TaskState.{TaskState}
 use Rattle.vv_units.specs.declared.volume.TaskState.TheVariants.{Running, Success, Cancelled, Interrupted}
 use Rattle.vv_record.specs.Reading.{Form, Read, ◌>>=◌, done, number, bytes, allowed, number_within, is_within, items}
-use Rattle.vv_record.specs.Forms.{quota, vvol_type_field, offers, needs, endpoints, note}
-use Rattle.vv_record.specs.Spelling.{fits, text_spelling, list_spelling, type_number, offers_spelling, needs_spelling, endpoints_spelling, are_offers, are_needs, are_endpoints, each_behind}
+use Rattle.vv_record.specs.Spelling.{fits, text_spelling, list_spelling, each_behind}
 use Rattle.vv_record.proofs.Passing.{each_behind-alone, between}
 use Rattle.vv_record.proofs.Stands.{Stands, Stands-then, Stands-front, Stands-nothing, Stands-here, IsReader, moved, bytes_again, bytes_takes, allowed_is, allowed_again}
-use Rattle.vv_record.proofs.Spells.{Spells, number_spells, allowed_spells, number_within_spells, took, done_is, takes_1, again_1, takes_3, again_3, ReadsTexts, text_spells, list_spells, items_again, items_take}
+use Rattle.vv_record.proofs.Spells.{Spells, number_spells, number_within_spells, took, done_is, takes_1, again_1, takes_3, again_3, ReadsTexts, text_spells, list_spells, items_again, items_take}
 use Rattle.vv_record.proofs.FormLaws.{quota_spells, vvol_type_spells, offers_spells, needs_spells, endpoints_spells, note_spells}
-use Rattle.vv_flat.specs.State.{Container, Volume, Context, Address, Binding, Job, Clone, Copy, Task, RunningClone, Piece, RunningCopy}
+use Rattle.vv_flat.specs.State.{Container, Volume, Context, Binding, Job, Clone, Copy, Task}
 use Rattle.vv_flat.specs.Chunks.{Entry}
 use Rattle.vv_area.specs.Forms.{is_next_container, container_number, container, containers, kind_numbered, is_source, source_of, kind_field, reverted_field, most_pairs, pairs_have, key_bytes, other_key, pair, metadata, no_place, place_numbered, place_field, entry, entries, rises, number_of_volume, volume_number, volume, volumes, number_of_context, context_host, endpoint_numbers, context, contexts, is_next_host, is_next_endpoint, is_next_address, address_at, binding_host, binding_endpoint, binding_secondary, address, binding, bindings, clone_job, copy_job, job_numbered, job_field, state_numbered, state_field, number_of_task, task_number, task, tasks, running_clone, piece, pieces, running_copy}
 use Rattle.vv_area.specs.Spelling.{container_spelling, kind_number, source_number, kind_spelling, reverted_spelling, pair_spelling, metadata_spelling, place_spelling, entry_spelling, entries_spelling, volume_spelling, as_endpoints, context_spelling, address_spelling, binding_spelling, job_spelling, state_number, task_spelling, clone_spelling, piece_spelling, copy_spelling, is_container_behind, are_containers, is_kind, is_reverted, is_pair_behind, are_pairs, is_place, is_entry, are_entries, is_volume_behind, are_volumes, is_context_behind, are_contexts, is_address_behind, is_binding_behind, are_bindings, is_job, is_task_behind, are_tasks, is_clone_row, is_piece, are_pieces}

@@ -8,3 +8,12 @@ pub mod WellFormed
 pub mod AreaLengths
 pub mod PieceLemmas
 pub mod ReadForms
+pub mod RuleParts
+pub mod Conjunctions
+pub mod Shapes
+pub mod NamesParts
+pub mod Gathered
+pub mod SharingParts
+pub mod SpaceParts
+pub mod RunParts
+pub mod FaultChain

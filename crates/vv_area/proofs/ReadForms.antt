@@ -1,9 +1,9 @@
 -- Tables that have a spelling have their form, and so have their fields.
-use Rattle.std.proofs.Common.{◌≡◌, ℕ, suc, ◌+◌, ◌*◌, ◌^◌, ◌≤◌, ◌&&◌, ◌||◌, Bool, true, false, cond, eqb, leb, ltb, not, List, [], ◌∷◌, ◌++◌, map, length, take, drop, refl, sym, ap, subst, ◌∙◌, arith}
+use Rattle.std.proofs.Common.{◌≡◌, ℕ, ◌≤◌, ◌&&◌, ◌||◌, Bool, true, false, cond, eqb, leb, ltb, not, List, [], ◌∷◌, ◌++◌, map, length, take, drop, refl, sym, ap, ◌∙◌, arith}
 use Rattle.std.specs.Prelude.{filter}
 use Rattle.std.specs.List.{list_all, list_any}
 use Rattle.std.specs.Str.{bytes_eq}
-use Rattle.std.proofs.lemmas.Bool.{and_parts, and_from, or_parts, or_from, not-true, not_from_false, eqb-true, eqb-false, ne_eqb, leb-true, le-leb}
+use Rattle.std.proofs.lemmas.Bool.{and_parts, and_from, or_parts, or_from, not-true, not_from_false, eqb-true, eqb-false, ne_eqb, le-leb}
 use Rattle.vv_units.specs.Names.{is_name, is_key, is_note}
 use Rattle.vv_units.specs.declared.volume.Offer.{Offer}
 use Rattle.vv_units.specs.declared.volume.Need.{Need}
@@ -18,9 +18,9 @@ use Rattle.vv_flat.specs.Space.{is_running, is_clone}
 use Rattle.vv_flat.specs.Bindings.{is_below}
 use Rattle.vv_flat.specs.Form.{is_formed, all_below, bindings_rise, begins_with_zero, running_clones, running_copies}
 use Rattle.vv_flat.specs.Fields.{is_number, have_forms, texts_differ, is_job as job_has_form, are_offers as offers_have_forms, are_needs as needs_have_forms, are_pairs as pairs_have_forms, are_endpoints as endpoints_have_forms}
-use Rattle.vv_area.specs.Forms.{last_of, rises, is_next_container, is_next_host, is_next_endpoint, is_next_address, pairs_have, number_of_volume, number_of_context, number_of_task}
+use Rattle.vv_area.specs.Forms.{rises, is_next_container, is_next_host, is_next_endpoint, is_next_address, pairs_have, number_of_volume, number_of_context, number_of_task}
 use Rattle.vv_area.specs.Spelling.{as_endpoints, is_container_behind, are_containers, is_pair_behind, are_pairs, are_entries, is_volume_behind, are_volumes, is_context_behind, are_contexts, is_address_behind, is_binding_behind, are_bindings, is_job, is_task_behind, are_tasks, is_clone_row, is_clone_of, are_pieces, is_copy_of, are_runs, is_spellable}
-use Rattle.vv_area.proofs.Each.{Each, all_from, each_follows, last_is, Differ}
+use Rattle.vv_area.proofs.Each.{Each, all_from, last_is, Differ}
 use Rattle.vv_area.proofs.AreaLengths.{each_in}
 
 -- ---- lists that rise
@@ -193,14 +193,14 @@ texts_from : {A : Type 0} (text : A → List ℕ) (xs : List A) → Differ (λ x
 texts_from text [] h = refl
 texts_from text (x ∷ xs) h = and_from _ _ (not_from_false _ (none_any text (bytes_eq (text x)) xs h.0)) (texts_from text xs h.1)
 
-offers_fine : (xs : List Offer) → are_offers xs ≡ true → offers_have_forms xs ≡ true
+pub offers_fine : (xs : List Offer) → are_offers xs ≡ true → offers_have_forms xs ≡ true
 offers_fine xs h =
     let each = (and_parts _ (each_behind is_offer_behind [] xs) h).1 in
     let good = each_in is_offer_behind (λ o. (is_name o.name && is_number 64 o.value) ≡ true) (λ before o e. let two = and_parts (is_name o.name && not (list_any (λ b. same_text b.name o.name) before)) (fits 8 o.value) e in and_from _ _ (and_parts (is_name o.name) _ two.0).0 two.1) [] xs each in
     let apart = all_differ is_offer_behind (λ b o. same_text b.name o.name) (λ before o e. not-true _ (and_parts (is_name o.name) (not (list_any (λ b. same_text b.name o.name) before)) (and_parts _ (fits 8 o.value) e).0).1) [] xs each in
     and_from _ _ (all_from (λ (o : Offer). is_name o.name && is_number 64 o.value) xs good) (texts_from (λ (o : Offer). o.name) xs apart)
 
-needs_fine : (xs : List Need) → are_needs xs ≡ true → needs_have_forms xs ≡ true
+pub needs_fine : (xs : List Need) → are_needs xs ≡ true → needs_have_forms xs ≡ true
 needs_fine xs h =
     let each = (and_parts _ (each_behind is_need_behind [] xs) h).1 in
     let good = each_in is_need_behind (λ o. (is_name o.name && is_number 64 o.value) ≡ true) (λ before o e. let two = and_parts (is_name o.name && not (list_any (λ b. same_text b.name o.name) before)) (fits 8 o.value) e in and_from _ _ (and_parts (is_name o.name) _ two.0).0 two.1) [] xs each in
@@ -235,7 +235,7 @@ good_numbers : (ns : List ℕ) → Each (λ (e : EndpointId). (is_number 16 e.0 
 good_numbers [] h = refl
 good_numbers (n ∷ ns) h = and_from _ _ h.0 (good_numbers ns h.1)
 
-endpoints_fine : (ns : List ℕ) → are_endpoints (as_endpoints ns) ≡ true → endpoints_have_forms ns ≡ true
+pub endpoints_fine : (ns : List ℕ) → are_endpoints (as_endpoints ns) ≡ true → endpoints_have_forms ns ≡ true
 endpoints_fine ns h =
     let each = (and_parts _ (each_behind is_endpoint_behind [] (as_endpoints ns)) h).1 in
     let parts : (before : List EndpointId) (e : EndpointId) → is_endpoint_behind before e ≡ true → (eqb e.0 0 ≡ false) × (list_any (λ b. eqb b.0 e.0) before ≡ false) × (fits 2 e.0 ≡ true) =

@@ -1,10 +1,10 @@
 -- What running tasks hold, read one after the other as a loop does.
-use Rattle.std.proofs.Common.{◌≡◌, ℕ, suc, ◌+◌, ◌<◌, ◌≤◌, List, [], ◌∷◌, length, get_or, drop, drop-cons, add-one, refl, sym, ap, ◌∙◌, arith}
+use Rattle.std.proofs.Common.{◌≡◌, ℕ, suc, ◌+◌, ◌<◌, ◌≤◌, List, ◌∷◌, length, get_or, drop, drop-cons, add-one, sym, ap, ◌∙◌}
 use Rattle.std.proofs.lemmas.List.{drop_all}
 use Rattle.vv_fields.specs.Fields.{ReaderState}
 use Rattle.vv_record.specs.declared.record.RecordFault.{RecordFault}
 use Rattle.vv_record.specs.declared.record.RecordFault.TheVariants as fault
-use Rattle.vv_record.specs.Reading.{Reading, Read, Fault, then_read, Fails}
+use Rattle.vv_record.specs.Reading.{Reading, Read, then_read, Fails}
 use Rattle.vv_flat.specs.State.{Task}
 use Rattle.vv_area.specs.Forms.{Runs, next_run, runs}
 

@@ -1,20 +1,19 @@
 -- Names, keys and endpoints that are all different, said as the spelling says it.
-use Rattle.std.proofs.Common.{◌≡◌, ℕ, suc, ◌+◌, ◌^◌, ◌≤◌, ◌&&◌, ◌||◌, Bool, true, false, cond, eqb, leb, not, List, [], ◌∷◌, ◌++◌, map, length, refl, sym, ap, subst, ◌∙◌, arith}
+use Rattle.std.proofs.Common.{◌≡◌, ℕ, suc, ◌≤◌, ◌&&◌, true, false, eqb, leb, not, List, [], ◌∷◌, map, length, refl, sym, ap, arith}
 use Rattle.std.specs.List.{list_all, list_any}
 use Rattle.std.specs.Str.{bytes_eq}
-use Rattle.std.proofs.lemmas.Bool.{and_parts, and_from, or_from, not-true, not_from_false, eqb-true, eqb-false, ne_eqb, le-leb, leb-true, ltb-true, lt-ltb}
+use Rattle.std.proofs.lemmas.Bool.{and_parts, and_from, or_from, not-true, not_from_false, eqb-false, ne_eqb, le-leb, leb-true}
 use Rattle.vv_units.specs.Names.{is_name, is_key, is_note}
 use Rattle.vv_units.specs.declared.volume.Offer.{Offer}
 use Rattle.vv_units.specs.declared.volume.Need.{Need}
 use Rattle.vv_units.specs.declared.numbers.EndpointId.{EndpointId}
 use Rattle.vv_record.specs.Reading.{is_within}
-use Rattle.vv_record.specs.Spelling.{are_offers, are_needs, are_endpoints, is_offer_behind, is_need_behind, is_endpoint_behind, each_behind, fits}
-use Rattle.vv_record.specs.Forms.{same_text, offers_have, needs_have, endpoints_have, is_other_endpoint}
+use Rattle.vv_record.specs.Spelling.{are_offers, are_needs, are_endpoints, is_offer_behind, is_need_behind, is_endpoint_behind}
+use Rattle.vv_record.specs.Forms.{same_text}
 use Rattle.vv_flat.specs.Lists.{all_different}
 use Rattle.vv_flat.specs.Fields.{is_number, texts_differ, are_offers as offers_have_forms, are_needs as needs_have_forms, are_pairs as pairs_have_forms, are_endpoints as endpoints_have_forms}
-use Rattle.vv_area.specs.Forms.{pairs_have}
 use Rattle.vv_area.specs.Spelling.{is_pair_behind, are_pairs, as_endpoints}
-use Rattle.vv_area.proofs.Each.{Each, each_of, each_follows, each_of_map, Differ, none_of_map, none_of, differ_behind, nothing_before}
+use Rattle.vv_area.proofs.Each.{Each, each_of, Differ, none_of_map, none_of, differ_behind, nothing_before}
 
 within_from : (low high n : ℕ) → low ≤ n → n ≤ high → is_within low high n ≡ true
 within_from low high n h k = and_from _ _ (le-leb low n h) (le-leb n high k)

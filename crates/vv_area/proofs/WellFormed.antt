@@ -1,15 +1,12 @@
 -- Tables that are well formed have a spelling.
-use Rattle.std.proofs.Common.{◌≡◌, ℕ, suc, ◌+◌, ◌-◌, ◌*◌, ◌^◌, ◌<◌, ◌≤◌, ◌&&◌, ◌||◌, Bool, true, false, cond, eqb, leb, ltb, not, List, [], ◌∷◌, ◌++◌, map, length, take, drop, Option, Some, None, refl, sym, ap, subst, ◌∙◌, arith, ⊎_elim}
-use Rattle.std.specs.Prelude.{sum_by, is_some, filter}
-use Rattle.std.specs.List.{list_all, list_any, find, flat_map}
+use Rattle.std.proofs.Common.{◌≡◌, ℕ, ◌+◌, ◌-◌, ◌^◌, ◌≤◌, ◌&&◌, ◌||◌, Bool, true, false, cond, eqb, leb, ltb, not, List, [], ◌∷◌, ◌++◌, map, length, take, drop, Option, Some, None, refl, ap, subst, ◌∙◌, arith, ⊎_elim}
+use Rattle.std.specs.Prelude.{is_some, filter}
+use Rattle.std.specs.List.{list_all, find, flat_map}
 use Rattle.std.specs.Str.{bytes_eq}
-use Rattle.std.proofs.lemmas.Bool.{and_parts, and_from, or_cases, or_left, or_right, not_from_false, eqb-true, eq-eqb, ne_eqb, leb-true, le-leb, ltb-true, lt-ltb, cases_Bool}
+use Rattle.std.proofs.lemmas.Bool.{and_parts, and_from, or_cases, or_left, or_right, not_from_false, eqb-true, ne_eqb, leb-true, le-leb, ltb-true, lt-ltb}
 use Rattle.vv_units.specs.declared.volume.VolumeKind.{VolumeKind}
 use Rattle.vv_units.specs.declared.volume.VolumeKind.TheVariants.{Plain, SnapshotOf, FastCloneOf, FullCloneOf}
-use Rattle.vv_units.specs.declared.volume.Offer.{Offer}
-use Rattle.vv_units.specs.declared.volume.Need.{Need}
 use Rattle.vv_record.specs.Reading.{is_within}
-use Rattle.vv_record.specs.Forms.{is_quota}
 use Rattle.vv_record.specs.Spelling.{fits, each_behind}
 use Rattle.vv_flat.specs.Lists.{if_found, mapped_from, all_above, all_rising}
 use Rattle.vv_flat.specs.State.{Container, Volume, Context, Address, Binding, Job, Clone, Copy, Task, RunningClone, Piece, RunningCopy, Durable, indexed, map_volume, map_clone, map_piece, map_copy, container_of, volume_of, task_of}
@@ -22,10 +19,9 @@ use Rattle.vv_flat.specs.Sharing.{Standing, standing, standings, is_placed, is_s
 use Rattle.vv_flat.specs.Rules.{is_logged, is_kind_logged, numbers_rule, names_rule, limits_rule, is_copy_kept, copies_rule, meets_rules}
 use Rattle.vv_flat.specs.Fields.{is_number, have_forms, is_job as job_has_form, are_offers as offers_have_forms, are_needs as needs_have_forms, are_pairs as pairs_have_forms, are_endpoints as endpoints_have_forms}
 use Rattle.vv_flat.proofs.Shares.{list_all-follows}
-use Rattle.vv_flat.proofs.Kept.{Kept}
 use Rattle.vv_flat.proofs.KeepRules.{rules_met}
-use Rattle.vv_area.specs.Forms.{last_of, is_next_container, is_next_host, is_next_endpoint, is_next_address, rises, number_of_volume, number_of_context, number_of_task, no_place}
-use Rattle.vv_area.specs.Spelling.{source_number, is_place, is_entry, are_entries, is_container_behind, are_containers, is_volume_behind, is_context_behind, is_binding_behind, is_job, is_task_behind, is_clone_row, is_clone_of, is_piece, are_pieces, is_copy_of, are_runs, are_volumes, are_contexts, are_bindings, are_tasks, is_spellable}
+use Rattle.vv_area.specs.Forms.{is_next_container, is_next_host, is_next_endpoint, is_next_address, rises, number_of_volume, number_of_context, number_of_task, no_place}
+use Rattle.vv_area.specs.Spelling.{source_number, is_entry, are_entries, is_container_behind, are_containers, is_volume_behind, is_context_behind, is_binding_behind, is_job, is_task_behind, is_clone_row, is_clone_of, is_piece, are_pieces, is_copy_of, are_runs, are_volumes, are_contexts, are_bindings, are_tasks, is_spellable}
 use Rattle.vv_area.proofs.Texts.{offers_fine, needs_fine, pairs_fine, endpoints_fine}
 use Rattle.vv_area.proofs.Each.{Each, each_of, all_from, each_follows, each_both, each_of_map, each_mapped, each_left, each_flat, found_one, each_within, sum_of_map, length_of_map, last_is, Chain, chain_behind}
 

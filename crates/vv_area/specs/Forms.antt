@@ -1,7 +1,7 @@
 -- How the tables of an area are read: one form for each table, field after field. Where a list is to rise, its numbers
 -- are allowed only where they do. Spelling 1 has no log number of a volume's last revert, and at most 16 pairs in a
 -- list of metadata; spelling 2 has the number, and at most 64 pairs.
-use Rattle.std.specs.Prelude.{ℕ, ◌-◌, ◌^◌, ◌==◌, ◌||◌, ◌&&◌, Bool, true, not, List, [], ◌∷◌, ◌++◌, map, length, slice_get, Option, Some, None, nat_le, nat_lt, if◌then◌else◌}
+use Rattle.std.specs.Prelude.{ℕ, ◌-◌, ◌==◌, ◌||◌, Bool, true, not, List, [], ◌∷◌, ◌++◌, map, length, slice_get, Option, Some, None, nat_le, nat_lt, if◌then◌else◌}
 use Rattle.std.specs.List.{list_any}
 use Rattle.vv_units.specs.declared.volume.VolumeKind.{VolumeKind}
 use Rattle.vv_units.specs.declared.volume.VolumeKind.TheVariants.{Plain, SnapshotOf, FastCloneOf, FullCloneOf}

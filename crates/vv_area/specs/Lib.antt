@@ -7,3 +7,4 @@ pub mod Spelling
 pub mod Lengths
 pub mod Pieces
 pub mod Area
+pub mod Ruled

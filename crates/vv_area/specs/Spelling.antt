@@ -1,5 +1,5 @@
 -- The one spelling of tables, in spelling 1 and 2, and which tables have one.
-use Rattle.std.specs.Prelude.{ℕ, ◌-◌, ◌^◌, ◌==◌, ◌||◌, ◌&&◌, Bool, true, false, not, List, [], ◌∷◌, ◌++◌, map, length, take, drop, Option, Some, None, nat_le, nat_lt, if◌then◌else◌}
+use Rattle.std.specs.Prelude.{ℕ, ◌==◌, ◌&&◌, Bool, true, not, List, [], ◌∷◌, ◌++◌, map, length, take, drop, Option, Some, None, nat_le, nat_lt, if◌then◌else◌}
 use Rattle.std.specs.List.{concat, flat_map, list_all}
 use Rattle.vv_fields.specs.Fields.{be_bytes}
 use Rattle.vv_units.specs.Names.{is_key, is_note}
@@ -11,7 +11,6 @@ use Rattle.vv_units.specs.declared.numbers.EndpointId.{EndpointId}
 use Rattle.vv_record.specs.Reading.{is_within}
 use Rattle.vv_record.specs.Forms.{is_quota}
 use Rattle.vv_record.specs.Spelling.{text_spelling, list_spelling, type_number, offers_spelling, needs_spelling, endpoints_spelling, fits, each_behind, are_offers, are_needs, are_endpoints}
-use Rattle.vv_flat.specs.Lists.{if_found}
 use Rattle.vv_flat.specs.State.{Container, Volume, Context, Address, Binding, Job, Clone, Copy, Task, RunningClone, Piece, RunningCopy, Durable}
 use Rattle.vv_flat.specs.Space.{is_running, is_clone}
 use Rattle.vv_flat.specs.Chunks.{Entry}

@@ -36,8 +36,9 @@ fn binding_items(
     Ok(bindings)
 }
 
+/// The next binding, behind these.
 #[tactic(auto, unfolding(crate::specs::Forms::binding, crate::specs::Forms::address))]
-fn binding(before: &[RawBinding], fields: &mut Fields) -> Result<RawBinding, RecordFault>
+pub fn binding(before: &[RawBinding], fields: &mut Fields) -> Result<RawBinding, RecordFault>
     ensures { Gives result fields.new (form.binding before.now fields.old) }
 {
     let host = host(before, fields)?;

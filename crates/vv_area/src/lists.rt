@@ -4,7 +4,7 @@ ghost use Rattle.vv_record.specs.Reading.{Gives, GivesSeen, items};
 ghost use Rattle.vv_area.specs.Forms as form;
 ghost use Rattle.vv_area.specs.Forms.{rises, number_of_volume, number_of_context};
 
-use crate::metadata::{entries, metadata};
+use crate::metadata::{entries, metadata_pairs};
 use crate::rows::{RawContainer, RawContext, RawVolume};
 use std::alloc::Global;
 use vv_record::{Fields, RecordFault, endpoints, needs, offers};
@@ -37,8 +37,9 @@ fn container_items(
     Ok(containers)
 }
 
+/// The next container, behind these.
 #[tactic(auto, unfolding(crate::specs::Forms::container))]
-fn container(
+pub fn container(
     alloc: Global,
     before: &[RawContainer],
     fields: &mut Fields,
@@ -118,10 +119,10 @@ fn volume(
     let number = volume_number(before, fields)?;
     let container = fields.u64()?;
     let vtype = fields.vvol_type()?;
-    let kind = kind(fields)?;
+    let kind = volume_kind(fields)?;
     let reverted = reverted(spelling, fields)?;
     let needs = needs(alloc, fields)?;
-    let metadata = metadata(alloc, spelling, fields)?;
+    let metadata = metadata_pairs(alloc, spelling, fields)?;
     let entries = entries(alloc, fields)?;
     Ok(RawVolume {
         number: VolumeId(number),
@@ -135,8 +136,9 @@ fn volume(
     })
 }
 
+/// The number of the next volume, behind these.
 #[tactic(auto, unfolding(crate::specs::Forms::volume_number, vv_record::specs::Reading::allowed))]
-fn volume_number(before: &[RawVolume], fields: &mut Fields) -> Result<u64, RecordFault>
+pub fn volume_number(before: &[RawVolume], fields: &mut Fields) -> Result<u64, RecordFault>
     ensures { Gives result fields.new (form.volume_number before.now fields.old) }
 {
     let at = fields.at();
@@ -159,7 +161,7 @@ fn is_next_volume(before: &[RawVolume], number: u64) -> bool
 
 /// How a volume came to be.
 #[tactic(auto, unfolding(crate::specs::Forms::kind_field))]
-fn kind(fields: &mut Fields) -> Result<VolumeKind, RecordFault>
+pub fn volume_kind(fields: &mut Fields) -> Result<VolumeKind, RecordFault>
     ensures { Gives result fields.new (form.kind_field fields.old) }
 {
     let kind = fields.u8_within(0, 3)?;
@@ -193,7 +195,7 @@ fn kind_numbered(kind: u8, source: u64) -> VolumeKind
 }
 
 /// The log number of the last revert, which spelling 1 doesn't have.
-fn reverted(spelling: u8, fields: &mut Fields) -> Result<u64, RecordFault>
+pub fn reverted(spelling: u8, fields: &mut Fields) -> Result<u64, RecordFault>
     ensures { Gives result fields.new (form.reverted_field spelling fields.old) }
 {
     if spelling == 1 { Ok(0) } else { fields.u64() }
@@ -226,8 +228,9 @@ fn context_items(
     Ok(contexts)
 }
 
+/// The next context, behind these.
 #[tactic(auto, unfolding(crate::specs::Forms::context))]
-fn context(
+pub fn context(
     alloc: Global,
     before: &[RawContext],
     fields: &mut Fields,

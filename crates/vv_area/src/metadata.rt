@@ -12,8 +12,9 @@ use vv_units::{ItemList, Key, Note, Place};
 /// The number in place of the place where there is none.
 const NO_PLACE: u32 = u32::MAX;
 
+/// The metadata of a volume or of a running clone.
 #[tactic(auto, unfolding(crate::specs::Forms::metadata))]
-pub(crate) fn metadata(
+pub fn metadata_pairs(
     alloc: Global,
     spelling: u8,
     fields: &mut Fields,
@@ -116,8 +117,9 @@ fn entry_items(
     Ok(entries)
 }
 
+/// An entry of a list of chunks.
 #[tactic(auto, unfolding(crate::specs::Forms::entry))]
-pub(crate) fn entry(fields: &mut Fields) -> Result<ChunkEntry, RecordFault>
+pub fn entry(fields: &mut Fields) -> Result<ChunkEntry, RecordFault>
     ensures { Gives result fields.new (form.entry fields.old) }
 {
     let place = place(fields)?;

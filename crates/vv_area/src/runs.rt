@@ -5,7 +5,7 @@ ghost use Rattle.vv_area.specs.Forms as form;
 ghost use Rattle.vv_area.specs.Runs.{runs_of};
 ghost use Rattle.vv_flat.specs.Space.{is_running, is_clone};
 
-use crate::metadata::{entries, entry, metadata};
+use crate::metadata::{entries, entry, metadata_pairs};
 use crate::rows::{PieceList, RawClone, RawCopy, RawJob, RawPiece, RawTask};
 use std::alloc::Global;
 use vv_record::{Fields, RecordFault, needs};
@@ -57,13 +57,15 @@ fn with_run(
     }
 }
 
-fn is_running(task: &RawTask) -> bool
+/// Whether a task runs.
+pub fn is_running(task: &RawTask) -> bool
     ensures { result ≡ is_running task.now }
 {
     matches!(task.state, TaskState::Running)
 }
 
-fn is_clone(task: &RawTask) -> bool
+/// Whether a task makes a full clone.
+pub fn is_clone(task: &RawTask) -> bool
     ensures { result ≡ is_clone task.now.job }
 {
     matches!(task.job, RawJob::Clone { .. })
@@ -110,7 +112,7 @@ fn running_clone(
     let container = fields.u64()?;
     let vtype = fields.vvol_type()?;
     let needs = needs(alloc, fields)?;
-    let metadata = metadata(alloc, spelling, fields)?;
+    let metadata = metadata_pairs(alloc, spelling, fields)?;
     let image = entries(alloc, fields)?;
     let target = entries(alloc, fields)?;
     Ok(RawClone {
@@ -152,8 +154,9 @@ fn piece_items(alloc: Global, count: u32, fields: &mut Fields) -> Result<Vec<Raw
     Ok(pieces)
 }
 
+/// A piece of a difference copy.
 #[tactic(auto, unfolding(crate::specs::Forms::piece))]
-fn piece(fields: &mut Fields) -> Result<RawPiece, RecordFault>
+pub fn piece(fields: &mut Fields) -> Result<RawPiece, RecordFault>
     ensures { Gives result fields.new (form.piece fields.old) }
 {
     let index = fields.u32()?;

@@ -30,8 +30,9 @@ fn task_items(alloc: Global, count: u16, fields: &mut Fields) -> Result<Vec<RawT
     Ok(tasks)
 }
 
+/// The next task, behind these.
 #[tactic(auto, unfolding(crate::specs::Forms::task))]
-fn task(before: &[RawTask], fields: &mut Fields) -> Result<RawTask, RecordFault>
+pub fn task(before: &[RawTask], fields: &mut Fields) -> Result<RawTask, RecordFault>
     ensures { Gives result fields.new (form.task before.now fields.old) }
 {
     let number = task_number(before, fields)?;

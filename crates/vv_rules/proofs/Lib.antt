@@ -1,0 +1,11 @@
+pub mod Neighbours
+pub mod Searches
+pub mod Had
+pub mod Counts
+pub mod Orders
+pub mod Distinct
+pub mod SortedRows
+pub mod LeastOf
+pub mod MixedRows
+pub mod Apart
+pub mod Single

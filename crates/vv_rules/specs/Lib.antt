@@ -1,0 +1,3 @@
+pub mod Least
+pub mod Pairs
+pub mod Rows

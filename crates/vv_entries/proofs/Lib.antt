@@ -8,3 +8,4 @@ pub mod PlaceCounts
 pub mod Started
 pub mod Awaited
 pub mod Owners
+pub mod PageCut

@@ -1,6 +1,6 @@
 -- What a layer that owns all lists of a store wants to know: what a call on one list leaves of the others, that there are
 -- unused pages where the lists' entries are few, and that a place is counted exactly where an entry of a list names it.
-use Rattle.std.proofs.Common.{ℕ, suc, ◌≡◌, ◌+◌, ◌-◌, ◌<◌, ◌≤◌, sum_by, List, [], ◌∷◌, ◌++◌, length, get_or, slice_index, set, refl, sym, ap, ◌∙◌, ⊎_elim, arith, get_or-set_same, get_or-set_other, length-append}
+use Rattle.std.proofs.Common.{ℕ, zero, suc, ◌≡◌, ◌+◌, ◌-◌, ◌<◌, ◌≤◌, sum_by, List, [], ◌∷◌, ◌++◌, length, get_or, slice_index, set, refl, sym, ap, ◌∙◌, ⊎_elim, arith, get_or-set_same, get_or-set_other, length-append}
 use Rattle.std.specs.List.{All, flat_map}
 use Rattle.std.proofs.lemmas.Bool.{cases_eq, cases_lt}
 use Rattle.std.proofs.lemmas.List.{get_or_past}
@@ -18,7 +18,7 @@ use Rattle.vv_entries.specs.Owners.{all_numbers, all_entries, AreAllLists, IsLef
 use Rattle.vv_entries.proofs.Times.{same_bit_yes, same_bit_no, times-nil, times-cons, times-append, times_in}
 use Rattle.vv_entries.proofs.Named.{named-nil, named-append, named-le-named_in, named_some}
 
-numbers-append : (n : ℕ) (ls ms : List MapState) → times n (all_numbers (ls ++ ms)) ≡ times n (all_numbers ls) + times n (all_numbers ms)
+pub numbers-append : (n : ℕ) (ls ms : List MapState) → times n (all_numbers (ls ++ ms)) ≡ times n (all_numbers ls) + times n (all_numbers ms)
 numbers-append n ls ms = ap (times n) (flat_map-append (λ (map : MapState). map.numbers) ls ms) ∙ times-append n (all_numbers ls) (all_numbers ms)
 
 -- what holds of all items of two lists holds of those of each
@@ -32,7 +32,7 @@ All-back P (l ∷ ls) ms all = All-back P ls ms (All-tail P l (ls ++ ms) all)
 
 -- ---- the other lists
 module _ (old new : StoreState Entry) (before after : List ℕ) (ex : Exchanges old new before after) where
-  left_one : (map : MapState) → IsMapOf old map → ((n : ℕ) → times n map.numbers + times n before ≤ count_at old n) → IsLeft old new map
+  pub left_one : (map : MapState) → IsMapOf old map → ((n : ℕ) → times n map.numbers + times n before ≤ count_at old n) → IsLeft old new map
   left_one map of named =
       let pages = λ (i : ℕ) (h : i < length map.numbers).
       ex.pages (slice_index map.numbers i) (let one = times_in (slice_index map.numbers i) map.numbers i h refl in let all = named (slice_index map.numbers i) in omega arith) in
@@ -130,7 +130,7 @@ unused_or_counted (c ∷ cs) =
     (λ ne. omega arith)
     (cases_eq c 0)
 
-numbers_few : (store : StoreState Entry) (lists : List MapState) → All (λ (map : MapState). IsMapOf store map) lists → length (all_numbers lists) ≤ sum_by (λ (map : MapState). pages_for map.len) lists
+pub numbers_few : (store : StoreState Entry) (lists : List MapState) → All (λ (map : MapState). IsMapOf store map) lists → length (all_numbers lists) ≤ sum_by (λ (map : MapState). pages_for map.len) lists
 numbers_few store [] maps = omega arith
 numbers_few store (m ∷ ms) maps =
     let of = All-head (λ (map : MapState). IsMapOf store map) m ms maps in
@@ -186,3 +186,27 @@ named_by_lists store lists p tidy all h =
 
 pub none_by_lists : (store : StoreState Entry) (lists : List MapState) (p : ℕ) → named_in store p ≡ 0 → named p (all_entries store lists) ≡ 0
 none_by_lists store lists p none = ap (named p) (entries_of_pages store lists) ∙ named_pages_none store p (all_numbers lists) none
+
+-- where some page is named twice, one page more is unused
+one_more_unused : (counts : List ℕ) (k : ℕ) → 2 ≤ get_or counts k 0 → length counts + 1 ≤ zeros counts + sum_by (λ c. c) counts
+one_more_unused [] k two = absurd (omega arith)
+one_more_unused (c ∷ cs) zero two =
+    let rest = unused_or_counted cs in
+    let first : zeros (c ∷ cs) ≡ zero_bit c + zeros cs = sum_by-cons zero_bit c cs in
+    let sums : sum_by (λ k. k) (c ∷ cs) ≡ c + sum_by (λ k. k) cs = sum_by-cons (λ k. k) c cs in
+    omega arith
+one_more_unused (c ∷ cs) (suc k) two =
+    let rest = one_more_unused cs k two in
+    let first : zeros (c ∷ cs) ≡ zero_bit c + zeros cs = sum_by-cons zero_bit c cs in
+    let sums : sum_by (λ k. k) (c ∷ cs) ≡ c + sum_by (λ k. k) cs = sum_by-cons (λ k. k) c cs in
+    ⊎_elim
+    (λ e. let one = zero_bit_yes c e in omega arith)
+    (λ ne. omega arith)
+    (cases_eq c 0)
+
+pub unused_shared : (store : StoreState Entry) (lists : List MapState) (k : ℕ) → AreAllLists store lists → 2 ≤ count_at store k → length store.counts + 1 ≤ unused_pages store + sum_by (λ (map : MapState). pages_for map.len) lists
+unused_shared store lists k all two =
+    let sums = sum_below store.counts (all_numbers lists) (λ n. let e = all.counts n in omega arith) in
+    let each = one_more_unused store.counts k two in
+    let few = numbers_few store lists all.maps in
+    omega arith

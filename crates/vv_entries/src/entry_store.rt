@@ -1,5 +1,5 @@
 //! Lists of entries over counted pages, and the pool of their places.
-ghost use Rattle.std.specs.Prelude.{ℕ, ◌≡◌, ◌+◌, ◌-◌, ◌*◌, ◌/◌, ◌%◌, ◌^◌, ◌<◌, ◌≤◌, ◌↔◌, [], ◌∷◌, ◌++◌, length, replicate, slice_get, slice_set, slice_index, IfOk, OnOk, OnErr, IsTrue};
+ghost use Rattle.std.specs.Prelude.{ℕ, ◌≡◌, ◌≢◌, ◌+◌, ◌-◌, ◌*◌, ◌/◌, ◌%◌, ◌^◌, ◌<◌, ◌≤◌, ◌↔◌, [], ◌∷◌, ◌++◌, length, replicate, take, drop, slice_get, slice_set, slice_index, IfOk, OnOk, OnErr, IsTrue};
 ghost use Rattle.std.specs.Bool.{OnTrue, OnFalse};
 ghost use Rattle.vv_map.specs.Pages.{count_at, list_of, pages_for, unused_pages, IsMapOf};
 ghost use Rattle.vv_pool.specs.Pool.{IsFresh, IsFree, count_of, free_of, lowest_places, room_for, with_fresh, with_count, with_reserved};
@@ -9,7 +9,7 @@ ghost use Rattle.vv_entries.specs.Changes.{AreCounted, Exchanges, KeepsFresh, Ta
 
 use crate::entry::Entry;
 use crate::places::lower_ended;
-use crate::writing::{append, await_entry, own_last_page, own_page, publish, replace};
+use crate::writing::{append, append_one, await_entry, own_last_page, own_page, publish, replace};
 use std::alloc::Global;
 use std::marker::Model;
 use std::sync::ledger::Ledger;
@@ -68,6 +68,7 @@ impl EntryStore {
         requires numbers { pages_for n ≤ room.numbers }
         requires unused { pages_for n ≤ unused_pages self.old.store }
         ensures len { result.len ≡ n }
+        ensures memory { result.memory ≡ room.numbers }
         ensures list { list_of self.new.store result ≡ replicate n unmapped }
         ensures of { IsMapOf self.new.store result }
         ensures others { Exchanges self.old.store self.new.store [] result.numbers }
@@ -87,7 +88,9 @@ impl EntryStore {
         requires of { IsMapOf self.old.store map.now }
         requires room { pages_for map.now.len ≤ room.numbers }
         requires small { (i : ℕ) → i < length map.now.numbers → count_at self.old.store (slice_index map.now.numbers i) < 2 ^ 32 - 1 }
-        ensures same { result ≡ map.now }
+        ensures numbers { result.numbers ≡ map.now.numbers }
+        ensures len { result.len ≡ map.now.len }
+        ensures memory { result.memory ≡ room.numbers }
         ensures list { list_of self.new.store result ≡ list_of self.old.store map.now }
         ensures of { IsMapOf self.new.store result }
         ensures others { Exchanges self.old.store self.new.store [] map.now.numbers }
@@ -107,6 +110,13 @@ impl EntryStore {
         lower_ended(&mut self.pool, ended);
     }
 
+    /// How many entries a list has.
+    pub fn len(&self, map: &PagedMap<Entry>) -> u32
+        ensures { result ≡ map.now.len }
+    {
+        self.store.len(map)
+    }
+
     /// The entry at a place of a list.
     pub fn get(&self, map: &PagedMap<Entry>, at: u32) -> Entry
         requires of { IsMapOf self.now.store map.now }
@@ -114,6 +124,29 @@ impl EntryStore {
         ensures { slice_get (list_of self.now.store map.now) at ≡ Some result }
     {
         self.store.get(map, at)
+    }
+
+    /// The entries of a list's page at a place.
+    pub fn page<'a>(&'a self, map: &PagedMap<Entry>, at: u32) -> &'a [Entry]
+        requires of { IsMapOf self.now.store map.now }
+        requires within { 64 * at < map.now.len }
+        ensures { result.now ≡ take 64 (drop (64 * at) (list_of self.now.store map.now)) }
+    {
+        let _entries = self.store.len(map);
+        self.store.page(map, 64 * at)
+    }
+
+    /// Whether two lists name the same page at a place, so that they have equal entries there.
+    pub fn same_page(&self, map: &PagedMap<Entry>, other: &PagedMap<Entry>, at: u32) -> bool
+        requires of { IsMapOf self.now.store map.now }
+        requires of_other { IsMapOf self.now.store other.now }
+        ensures page { IsTrue result ↔ ((at < length map.now.numbers) × (slice_get other.now.numbers at ≡ slice_get map.now.numbers at)) }
+        ensures entries { IsTrue result → take 64 (drop (64 * at) (list_of self.now.store map.now)) ≡ take 64 (drop (64 * at) (list_of self.now.store other.now)) }
+    {
+        match map.number_at(at) {
+            Some(number) => names_at(other, at, number),
+            None => false,
+        }
     }
 
     /// Puts a fresh place into a list, in a page of its own. The place that stood there is named once less.
@@ -138,6 +171,7 @@ impl EntryStore {
         ensures taken { TakesUnused self.old.store map.old.numbers map.new.numbers }
         ensures pool { KeepsFresh (with_count self.old.pool fresh 1) self.new.pool }
         ensures alone { count_at self.new.store (slice_index map.new.numbers (at / 64)) ≡ 1 }
+        ensures pages { (j : ℕ) → j ≢ at / 64 → slice_index map.new.numbers j ≡ slice_index map.old.numbers j }
         ensures rise { steps.old ≤ steps.new }
         ensures steps { steps.new ≤ steps.old + 64 }
         ensures left { room.old.pages ≤ room.new.pages + 1 }
@@ -167,6 +201,7 @@ impl EntryStore {
         ensures taken { TakesUnused self.old.store map.old.numbers map.new.numbers }
         ensures pool { KeepsFresh self.old.pool self.new.pool }
         ensures alone { count_at self.new.store (slice_index map.new.numbers (at / 64)) ≡ 1 }
+        ensures pages { (j : ℕ) → j ≢ at / 64 → slice_index map.new.numbers j ≡ slice_index map.old.numbers j }
         ensures rise { steps.old ≤ steps.new }
         ensures steps { steps.new ≤ steps.old + 64 }
         ensures left { room.old.pages ≤ room.new.pages + 1 }
@@ -198,6 +233,7 @@ impl EntryStore {
         ensures taken { TakesUnused self.old.store map.old.numbers map.new.numbers }
         ensures pool { KeepsFresh self.old.pool self.new.pool }
         ensures alone { count_at self.new.store (slice_index map.new.numbers (at / 64)) ≡ 1 }
+        ensures pages { (j : ℕ) → j ≢ at / 64 → slice_index map.new.numbers j ≡ slice_index map.old.numbers j }
         ensures rise { steps.old ≤ steps.new }
         ensures steps { steps.new ≤ steps.old + 65 }
         ensures left { room.old.pages ≤ room.new.pages + 1 }
@@ -224,6 +260,9 @@ impl EntryStore {
         requires unused_copy { 0 < map.old.len % 64 → map.old.len < n → pages_for n + 1 ≤ length map.old.numbers + unused_pages self.old.store }
         ensures list { list_of self.new.store map.new ≡ list_of self.old.store map.old ++ replicate (n - map.old.len) unmapped }
         ensures len { map.new.len ≡ n }
+        ensures pages { (j : ℕ) → j < length map.old.numbers → j ≢ map.old.len / 64 → slice_index map.new.numbers j ≡ slice_index map.old.numbers j }
+        ensures same { map.old.len ≡ n → map.new ≡ map.old }
+        ensures alone { 0 < map.old.len % 64 → map.old.len < n → count_at self.new.store (slice_index map.new.numbers (map.old.len / 64)) ≡ 1 }
         ensures of { IsMapOf self.new.store map.new }
         ensures others { Exchanges self.old.store self.new.store map.old.numbers map.new.numbers }
         ensures taken { TakesUnused self.old.store map.old.numbers map.new.numbers }
@@ -236,6 +275,76 @@ impl EntryStore {
         }
         own_last_page(&mut self.store, &mut self.pool, map, room, steps);
         append(&mut self.store, &self.pool, map, n, room);
+    }
+
+    /// An empty list, with the room's memory for the numbers of pages.
+    pub fn begin(&self, room: &mut PageRoom<Entry>) -> PagedMap<Entry>
+        ensures empty { result ≡ record { numbers = []; len = 0; memory = room.old.numbers } }
+        ensures room { room.new.pages ≡ room.old.pages }
+    {
+        self.store.begin(room)
+    }
+
+    /// Appends an unmapped entry, with the memory that the list has for the numbers of its pages. Its last page is full, or
+    /// no other list names it. A page of the room is taken only where a new one begins.
+    pub fn append_unmapped(&mut self, map: &mut PagedMap<Entry>, room: &mut PageRoom<Entry>)
+        requires of { IsMapOf self.old.store map.old }
+        requires few { map.old.len + 1 < 2 ^ 32 }
+        requires alone { 0 < map.old.len % 64 → count_at self.old.store (slice_index map.old.numbers (map.old.len / 64)) ≡ 1 }
+        requires memory { pages_for (map.old.len + 1) ≤ map.old.memory }
+        requires pages { map.old.len % 64 ≡ 0 → 1 ≤ room.old.pages }
+        requires unused { map.old.len % 64 ≡ 0 → 1 ≤ unused_pages self.old.store }
+        ensures list { list_of self.new.store map.new ≡ list_of self.old.store map.old ++ unmapped ∷ [] }
+        ensures len { map.new.len ≡ map.old.len + 1 }
+        ensures memory { map.new.memory ≡ map.old.memory }
+        ensures of { IsMapOf self.new.store map.new }
+        ensures others { Exchanges self.old.store self.new.store map.old.numbers map.new.numbers }
+        ensures taken { TakesUnused self.old.store map.old.numbers map.new.numbers }
+        ensures pool { self.new.pool ≡ self.old.pool }
+        ensures room { room.new.pages + pages_for (map.old.len + 1) ≡ room.old.pages + length map.old.numbers }
+    {
+        append_one(&mut self.store, &self.pool, map, room);
+    }
+
+    /// Puts a fresh place into a list, in a page that no other list names. The place that stood there is named once less.
+    pub fn fill_fresh(&mut self, map: &mut PagedMap<Entry>, at: u32, fresh: Fresh, stamp: u64)
+        requires of { IsMapOf self.old.store map.old }
+        requires within { at < map.old.len }
+        requires alone { count_at self.old.store (slice_index map.old.numbers (at / 64)) ≡ 1 }
+        requires fresh { IsFresh self.old.pool fresh }
+        ensures list { list_of self.new.store map.new ≡ slice_set (list_of self.old.store map.old) at (placed fresh stamp) }
+        ensures same { map.new ≡ map.old }
+        ensures of { IsMapOf self.new.store map.new }
+        ensures others { Exchanges self.old.store self.new.store map.old.numbers map.new.numbers }
+        ensures pool { KeepsFresh (with_count self.old.pool fresh 1) self.new.pool }
+    {
+        let entry = publish(&self.store, &mut self.pool, fresh, stamp);
+        replace(&mut self.store, &mut self.pool, map, at, entry);
+    }
+
+    /// Puts an entry into a list, in a page that no other list names, whose place other entries name already. The place that
+    /// stood there is named once less.
+    pub fn fill_shared<L: Ledger>(
+        &mut self,
+        map: &mut PagedMap<Entry>,
+        at: u32,
+        entry: Entry,
+        steps: &mut Steps<L>,
+    )
+        requires of { IsMapOf self.old.store map.old }
+        requires within { at < map.old.len }
+        requires alone { count_at self.old.store (slice_index map.old.numbers (at / 64)) ≡ 1 }
+        requires counted { AreCounted self.old.pool (entry ∷ []) }
+        ensures list { list_of self.new.store map.new ≡ slice_set (list_of self.old.store map.old) at entry }
+        ensures same { map.new ≡ map.old }
+        ensures of { IsMapOf self.new.store map.new }
+        ensures others { Exchanges self.old.store self.new.store map.old.numbers map.new.numbers }
+        ensures pool { KeepsFresh self.old.pool self.new.pool }
+        ensures rise { steps.old ≤ steps.new }
+        ensures steps { steps.new ≤ steps.old + 1 }
+    {
+        await_entry(&self.store, &mut self.pool, entry, steps);
+        replace(&mut self.store, &mut self.pool, map, at, entry);
     }
 
     /// Takes the lowest `n` places, and adds them to `out` in rising order.
@@ -300,5 +409,15 @@ impl EntryStore {
         ensures free { free_of self.new.pool ≡ free_of self.old.pool + n }
     {
         self.pool.unreserve(n);
+    }
+}
+
+/// Whether a list names this page at a place.
+fn names_at(map: &PagedMap<Entry>, at: u32, number: u32) -> bool
+    ensures { IsTrue result ↔ (slice_get map.now.numbers at ≡ Some number) }
+{
+    match map.number_at(at) {
+        Some(other) => other == number,
+        None => false,
     }
 }

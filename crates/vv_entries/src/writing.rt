@@ -1,5 +1,5 @@
 //! Writes to a list over pages that other lists may share, with what they do to the counts of places.
-ghost use Rattle.std.specs.Prelude.{ℕ, ◌≡◌, ◌+◌, ◌-◌, ◌*◌, ◌/◌, ◌%◌, ◌^◌, ◌<◌, ◌≤◌, [], ◌∷◌, ◌++◌, length, replicate, slice_set, slice_index};
+ghost use Rattle.std.specs.Prelude.{ℕ, ◌≡◌, ◌≢◌, ◌+◌, ◌-◌, ◌*◌, ◌/◌, ◌%◌, ◌^◌, ◌<◌, ◌≤◌, [], ◌∷◌, ◌++◌, length, replicate, slice_set, slice_index};
 ghost use Rattle.vv_map.specs.Pages.{count_at, list_of, pages_for, unused_pages, IsMapOf};
 ghost use Rattle.vv_pool.specs.Pool.{IsFresh, count_of, with_count};
 ghost use Rattle.vv_entries.specs.Entries.{IsCounted, placed, unmapped};
@@ -31,6 +31,7 @@ pub(crate) fn own_page<L: Ledger>(
     ensures len { map.new.len ≡ map.old.len }
     ensures size { length map.new.numbers ≡ length map.old.numbers }
     ensures alone { count_at store.new (slice_index map.new.numbers (at / 64)) ≡ 1 }
+    ensures pages { (j : ℕ) → j ≢ at / 64 → slice_index map.new.numbers j ≡ slice_index map.old.numbers j }
     ensures taken { TakesUnused store.old map.old.numbers map.new.numbers }
     ensures others { Exchanges store.old store.new map.old.numbers map.new.numbers }
     ensures pool { KeepsFresh pool.old pool.new }
@@ -122,6 +123,7 @@ pub(crate) fn own_last_page<L: Ledger>(
     ensures len { map.new.len ≡ map.old.len }
     ensures size { length map.new.numbers ≡ length map.old.numbers }
     ensures alone { 0 < map.old.len % 64 → count_at store.new (slice_index map.new.numbers (map.old.len / 64)) ≡ 1 }
+    ensures pages { (j : ℕ) → j ≢ map.old.len / 64 → slice_index map.new.numbers j ≡ slice_index map.old.numbers j }
     ensures taken { TakesUnused store.old map.old.numbers map.new.numbers }
     ensures others { Exchanges store.old store.new map.old.numbers map.new.numbers }
     ensures pool { KeepsFresh pool.old pool.new }
@@ -158,9 +160,37 @@ pub(crate) fn append(
     ensures of { IsMapOf store.new map.new }
     ensures list { list_of store.new map.new ≡ list_of store.old map.old ++ replicate (n - map.old.len) unmapped }
     ensures len { map.new.len ≡ n }
+    ensures pages { (j : ℕ) → j < length map.old.numbers → slice_index map.new.numbers j ≡ slice_index map.old.numbers j }
     ensures taken { TakesUnused store.old map.old.numbers map.new.numbers }
     ensures others { Exchanges store.old store.new map.old.numbers map.new.numbers }
 {
     let _counts = pool;
     store.grow(map, n, Entry::unmapped(), room);
+}
+
+/// Appends an unmapped entry, with the memory that a list has. Its last page is full, or no other list names it.
+pub(crate) fn append_one(
+    store: &mut PageStore<Entry>,
+    pool: &Pool,
+    map: &mut PagedMap<Entry>,
+    room: &mut PageRoom<Entry>,
+)
+    requires counted { IsCounted store.old pool.now }
+    requires of { IsMapOf store.old map.old }
+    requires few { map.old.len + 1 < 2 ^ 32 }
+    requires alone { 0 < map.old.len % 64 → count_at store.old (slice_index map.old.numbers (map.old.len / 64)) ≡ 1 }
+    requires memory { pages_for (map.old.len + 1) ≤ map.old.memory }
+    requires pages { map.old.len % 64 ≡ 0 → 1 ≤ room.old.pages }
+    requires unused { map.old.len % 64 ≡ 0 → 1 ≤ unused_pages store.old }
+    ensures counted { IsCounted store.new pool.now }
+    ensures of { IsMapOf store.new map.new }
+    ensures list { list_of store.new map.new ≡ list_of store.old map.old ++ unmapped ∷ [] }
+    ensures len { map.new.len ≡ map.old.len + 1 }
+    ensures memory { map.new.memory ≡ map.old.memory }
+    ensures taken { TakesUnused store.old map.old.numbers map.new.numbers }
+    ensures others { Exchanges store.old store.new map.old.numbers map.new.numbers }
+    ensures room { room.new.pages + pages_for (map.old.len + 1) ≡ room.old.pages + length map.old.numbers }
+{
+    let _counts = pool;
+    store.append(map, Entry::unmapped(), room);
 }

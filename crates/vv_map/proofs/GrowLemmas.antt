@@ -23,7 +23,7 @@ list_extended f f' (p ∷ q ∷ qs) extra (suc i) size same last =
 
 -- a list as far as its pages go
 abbrev pub filled_map : MapState → ℕ → MapState
-filled_map map n = record { numbers = map.numbers; len = min n (64 * length map.numbers) }
+filled_map map n = record { numbers = map.numbers; len = min n (64 * length map.numbers); memory = map.memory }
 
 module _ {E : Type 0} (store : StoreState E) (map : MapState) (n : ℕ) (entry : E) (of : IsMapOf store map) (more : map.len ≤ n) where
   -- where the last page is full, nothing changes
@@ -117,8 +117,8 @@ module _ {E : Type 0} (mid new : StoreState E) (map : MapState) (ns : List ℕ) 
       ∙ ap (λ xs. xs ++ flat_map (page_at new) (drop k ns)) (flat_map_same (page_at mid) (page_at new) map.numbers early_page)
       ∙ ap (λ ys. list_of mid (filled_map map n) ++ ys) (later ∙ ap (λ m. replicate m entry) left)
 
-  pub is_map-grown : let grown : MapState = record { numbers = ns; len = n } in IsMapOf new grown
-  is_map-grown = record {
+  pub is_map-grown : (memory : ℕ) → let grown : MapState = record { numbers = ns; len = n; memory = memory } in IsMapOf new grown
+  is_map-grown memory = record {
     counted = λ i h. ⊎_elim
         (λ lt. let same : count_at new (slice_index ns i) ≡ count_at mid (slice_index map.numbers i) = ap (count_at new) (early_number i lt) ∙ added.other_counts (slice_index map.numbers i) (of.counted i lt) in
         let one = of.counted i lt in omega arith)

@@ -95,6 +95,15 @@ is_map-written store map number j e of within = record {
   size = of.size;
 }
 
+-- .. and so is a list with the same pages
+pub is_map-same : {E : Type 0} (store : StoreState E) (map map' : MapState) → map'.numbers ≡ map.numbers → map'.len ≡ map.len → IsMapOf store map → IsMapOf store map'
+is_map-same store map map' numbers len of = record {
+  counted = λ i h. subst (λ ns. 1 ≤ count_at store (slice_index ns i)) (sym numbers) (of.counted i (let s = ap length numbers in omega arith));
+  apart = λ i j lt h. subst (λ ns. slice_index ns i ≢ slice_index ns j) (sym numbers) (of.apart i j lt (let s = ap length numbers in omega arith));
+  sizes = λ i h. ap (λ ns. length (page_at store (slice_index ns i))) numbers ∙ of.sizes i (let s = ap length numbers in omega arith) ∙ ap (λ n. min 64 (n - 64 * i)) (sym len);
+  size = ap length numbers ∙ of.size ∙ ap pages_for (sym len);
+}
+
 -- equal pages under other numbers
 pub flat_map_like : {E : Type 0} (f f' : ℕ → List E) (numbers numbers' : List ℕ) → length numbers' ≡ length numbers → ((k : ℕ) → k < length numbers → f' (slice_index numbers' k) ≡ f (slice_index numbers k)) → flat_map f' numbers' ≡ flat_map f numbers
 flat_map_like f f' [] [] size same = refl
@@ -348,14 +357,11 @@ replicate_list f (p ∷ ps) n entry size filled =
     ∙ replicate-append-replicate (min 64 n) (n - 64) entry ∙ ap (λ k. replicate k entry) both
 
 module _ {E : Type 0} (old new : StoreState E) (ns : List ℕ) (n : ℕ) (entry : E) (added : Appends old new [] ns n entry) (size : length ns ≡ pages_for n) where
-  made : MapState
-  made = record { numbers = ns; len = n }
-
   pub list_of-made : flat_map (page_at new) ns ≡ replicate n entry
   list_of-made = replicate_list (page_at new) ns n entry size (λ i lt. added.filled i (omega arith) lt)
 
-  pub is_map-made : let map : MapState = record { numbers = ns; len = n } in IsMapOf new map
-  is_map-made = record {
+  pub is_map-made : (memory : ℕ) → let map : MapState = record { numbers = ns; len = n; memory = memory } in IsMapOf new map
+  is_map-made memory = record {
     counted = λ i lt. let one = added.counted i (omega arith) lt in omega arith;
     apart = λ i j lt h. added.apart i j (omega arith) lt h;
     sizes = λ i lt. ap length (added.filled i (omega arith) lt) ∙ length-replicate (min 64 (n - 64 * i)) entry;

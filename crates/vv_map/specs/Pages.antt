@@ -90,6 +90,7 @@ pub record Unshares {E : Type 0} (old new : StoreState E) (map map' : MapState) 
   pub copied : new ≡ with_page (lowered old (slice_index map.numbers i)) (slice_index map'.numbers i) (page_at old (slice_index map.numbers i)) 1
   pub numbers : map'.numbers ≡ slice_set map.numbers i (slice_index map'.numbers i)
   pub len : map'.len ≡ map.len
+  pub memory : map'.memory ≡ map.memory
   pub left : unused_pages new + 1 ≡ unused_pages old
 
 -- Unused pages became the further pages of a list, with equal entries as far as a list of n entries goes.

@@ -108,13 +108,14 @@ impl<E: Copy> PageStore<E> {
         requires numbers { pages_for n ≤ room.numbers }
         requires unused { pages_for n ≤ unused_pages self.old }
         ensures len { result.len ≡ n }
+        ensures memory { result.memory ≡ room.numbers }
         ensures list { list_of self.new result ≡ replicate n entry }
         ensures of { IsMapOf self.new result }
         ensures added { Appends self.old self.new [] result.numbers n entry }
     {
         let mut room = room;
         let ListMemory { mut numbers, ended } = room.take_list(self.alloc);
-        self.append(&mut numbers, n, entry, &mut room);
+        self.append_pages(&mut numbers, n, entry, &mut room);
         PagedMap {
             numbers,
             len: n,
@@ -131,6 +132,7 @@ impl<E: Copy> PageStore<E> {
         requires pages { pages_for n ≤ length map.old.numbers + room.old.pages }
         requires unused { pages_for n ≤ length map.old.numbers + unused_pages self.old }
         ensures len { map.new.len ≡ n }
+        ensures memory { map.new.memory ≡ room.old.numbers }
         ensures list { list_of self.new map.new ≡ list_of self.old map.old ++ replicate (n - map.old.len) entry }
         ensures of { IsMapOf self.new map.new }
         ensures added { Appends (last_filled self.old map.old n entry) self.new map.old.numbers map.new.numbers n entry }
@@ -139,9 +141,44 @@ impl<E: Copy> PageStore<E> {
         self.fill_last(map, n, entry);
         let ListMemory { numbers, ended } = room.take_list(self.alloc);
         let mut numbers = with_numbers(numbers, &map.numbers);
-        self.append(&mut numbers, n, entry, room);
+        self.append_pages(&mut numbers, n, entry, room);
         map.numbers = numbers;
         map.ended = ended;
+        map.len = n;
+    }
+
+    /// An empty list, with the room's memory for the numbers of pages.
+    pub fn begin(&self, room: &mut PageRoom<E>) -> PagedMap<E>
+        ensures empty { result ≡ record { numbers = []; len = 0; memory = room.old.numbers } }
+        ensures room { room.new.pages ≡ room.old.pages }
+    {
+        let ListMemory { numbers, ended } = room.take_list(self.alloc);
+        PagedMap {
+            numbers,
+            len: 0,
+            ended,
+        }
+    }
+
+    /// Appends one entry, with the memory that the list has for the numbers of its pages. Its last page is full, or no other
+    /// list names it. A page of the room is taken only where a new one begins.
+    pub fn append(&mut self, map: &mut PagedMap<E>, entry: E, room: &mut PageRoom<E>)
+        requires of { IsMapOf self.old map.old }
+        requires few { map.old.len + 1 < 2 ^ 32 }
+        requires alone { 0 < map.old.len % 64 → count_at self.old (slice_index map.old.numbers (map.old.len / 64)) ≡ 1 }
+        requires memory { pages_for (map.old.len + 1) ≤ map.old.memory }
+        requires pages { map.old.len % 64 ≡ 0 → 1 ≤ room.old.pages }
+        requires unused { map.old.len % 64 ≡ 0 → 1 ≤ unused_pages self.old }
+        ensures len { map.new.len ≡ map.old.len + 1 }
+        ensures memory { map.new.memory ≡ map.old.memory }
+        ensures list { list_of self.new map.new ≡ list_of self.old map.old ++ entry ∷ [] }
+        ensures of { IsMapOf self.new map.new }
+        ensures added { Appends (last_filled self.old map.old (map.old.len + 1) entry) self.new map.old.numbers map.new.numbers (map.old.len + 1) entry }
+        ensures room { room.new.pages + pages_for (map.old.len + 1) ≡ room.old.pages + length map.old.numbers }
+    {
+        let n = map.len + 1;
+        self.fill_last(map, n, entry);
+        self.append_pages(&mut map.numbers, n, entry, room);
         map.len = n;
     }
 
@@ -176,7 +213,7 @@ impl<E: Copy> PageStore<E> {
     }
 
     /// Adds the pages that a list lacks for `n` entries, each with equal entries.
-    fn append(&mut self, numbers: &mut Vec<u32>, n: u32, entry: E, room: &mut PageRoom<E>)
+    fn append_pages(&mut self, numbers: &mut Vec<u32>, n: u32, entry: E, room: &mut PageRoom<E>)
         requires fewer { vec_len numbers.old ≤ pages_for n }
         requires memory { pages_for n ≤ vec_capacity numbers.old }
         requires pages { pages_for n ≤ vec_len numbers.old + room.old.pages }
@@ -304,7 +341,9 @@ impl<E: Copy> PageStore<E> {
         requires of { IsMapOf self.old map.now }
         requires room { pages_for map.now.len ≤ room.numbers }
         requires small { (i : ℕ) → i < length map.now.numbers → count_at self.old (slice_index map.now.numbers i) < 2 ^ 32 - 1 }
-        ensures same { result ≡ map.now }
+        ensures numbers { result.numbers ≡ map.now.numbers }
+        ensures len { result.len ≡ map.now.len }
+        ensures memory { result.memory ≡ room.numbers }
         ensures raised { self.new ≡ all_raised self.old map.now.numbers }
         ensures steps { steps.new ≡ steps.old + pages_for map.now.len }
         ensures list { list_of self.new result ≡ list_of self.old map.now }
@@ -402,11 +441,11 @@ fn with_numbers(memory: Vec<u32>, numbers: &[u32]) -> Vec<u32>
     requires empty { vec_len memory ≡ 0 }
     requires fits { length numbers.now ≤ vec_capacity memory }
     ensures items { result.items ≡ numbers.now }
-    ensures memory { vec_capacity memory ≤ vec_capacity result }
+    ensures memory { vec_capacity result ≡ vec_capacity memory }
 {
     let mut memory = memory;
-    match memory.extend_from_slice(numbers) {
-        Ok(()) => memory,
-        Err(_) => unreachable!(),
+    for number in numbers {
+        memory.push_reserved(*number);
     }
+    memory
 }

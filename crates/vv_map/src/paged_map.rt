@@ -1,4 +1,5 @@
 //! A list over pages.
+ghost use Rattle.std.specs.Prelude.{◌≡◌, slice_get};
 
 use crate::page::Page;
 use std::marker::Model;
@@ -19,7 +20,16 @@ impl<E> Model for PagedMap<E> {
 
     ghost Value = { MapState };
 
-    ghost view = { λ a. record { numbers = a.numbers.items; len = a.len } };
+    ghost view = { λ a. record { numbers = a.numbers.items; len = a.len; memory = vec_capacity a.numbers } };
 
-    ghost invariant = { λ a. (vec_len a.ended ≡ 0) × (vec_len a.numbers ≤ vec_capacity a.ended) };
+    ghost invariant = { λ a. (vec_len a.ended ≡ 0) × (vec_capacity a.numbers ≤ vec_capacity a.ended) };
+}
+
+impl<E> PagedMap<E> {
+    /// The number of its page at a place.
+    pub fn number_at(&self, at: u32) -> Option<u32>
+        ensures { result ≡ slice_get self.now.numbers at }
+    {
+        self.numbers.get(at as usize).copied()
+    }
 }

@@ -3,7 +3,6 @@ use Rattle.std.proofs.Common.{ℕ, ◌≡◌, ◌+◌, ◌-◌, ◌==◌, ◌&&�
 use Rattle.std.specs.Prelude.{nat_lt}
 use Rattle.std.specs.List.{Contains, list_all, list_any, flat_map}
 use Rattle.std.proofs.lemmas.List.Elements.{Contains-append_left, Contains-append_right, Contains-append_cases}
-use Rattle.std.proofs.lemmas.List.Concat.{flat_map-append}
 use Rattle.vv_flat.specs.State.{Volume, Piece, indexed}
 use Rattle.vv_flat.specs.Chunks.{Entry, unmapped_entry}
 use Rattle.vv_flat.specs.Sharing.{names_place}
@@ -11,17 +10,17 @@ use Rattle.vv_flat.proofs.Shares.{and_left, and_right}
 use Rattle.vv_flat.specs.NamedPlaces.{named_count}
 use Rattle.vv_flat.proofs.NamedPlaces.{used_named}
 use Rattle.vv_vols.specs.Shelf.{HeldList, ShelfState, pieces_of, shelf_pieces, shelf_used, is_volume, is_held, is_new_place, shares_rightly}
-use Rattle.vv_vols.specs.Calls.{placed_at, with_made, with_deleted, with_chunks, with_entry, with_size, with_put, with_held, without_held}
+use Rattle.vv_vols.specs.Calls.{placed_at, with_changed, with_made, with_deleted, with_chunks, with_entry, with_size, with_put, with_held, without_held}
 use Rattle.vv_vols.specs.Conditions.{is_new_stamp, AreUnmapped, Stands}
-use Rattle.vv_vols.proofs.Members.{none_in, in_put, in_removed, in_changed, in_all, in_set, in_longer, chunk_in}
+use Rattle.vv_vols.proofs.Members.{in_put, in_removed, in_changed, in_all, in_set, in_longer, chunk_in}
 use Rattle.vv_vols.proofs.Sharing.{shares_of_old, shares_with_new}
 
-not_false : (b : Bool) → not b ≡ true → b ≡ false
+pub not_false : (b : Bool) → not b ≡ true → b ≡ false
 not_false true e = cc
 not_false false e = refl
 
 -- none of some items passes
-none_all : {A : Type 0} (test : A → Bool) (xs : List A) → not (list_any test xs) ≡ true → list_all (λ x. not (test x)) xs ≡ true
+pub none_all : {A : Type 0} (test : A → Bool) (xs : List A) → not (list_any test xs) ≡ true → list_all (λ x. not (test x)) xs ≡ true
 none_all test [] e = refl
 none_all test (x ∷ xs) e = go (test x) e (λ rest. none_all test xs rest)
   where
@@ -62,6 +61,14 @@ module _ (s : ShelfState) (shares : shares_rightly s ≡ true) where
   deleted_shares n = shares_of_old s.geometry.pool_chunks (shelf_pieces s) (shelf_pieces (with_deleted s n)) shares (λ a h.
       volumes_case (with_deleted s n).volumes a h (λ front.
       inl (in_volumes a (in_removed (λ (w : Volume Entry). indexed w.chunks) (is_volume n) s.volumes a front))))
+
+  -- a volume changed beside its chunks
+  pub head_shares : (n : ℕ) (f : Volume Entry → Volume Entry) → ((v : Volume Entry) → (f v).chunks ≡ v.chunks) → shares_rightly (with_changed s n f) ≡ true
+  head_shares n f same = shares_of_old s.geometry.pool_chunks (shelf_pieces s) (shelf_pieces (with_changed s n f)) shares (λ a h.
+      volumes_case (with_changed s n f).volumes a h (λ front. ⊎_elim
+      (λ old. inl (in_volumes a old))
+      (λ (w : (v : Volume Entry) × Contains s.volumes v × Contains (indexed (f v).chunks) a). inl (in_volume w.0 a w.1 (subst (λ chunks. Contains (indexed chunks) a) (same w.0) w.2)))
+      (in_changed (λ (v : Volume Entry). indexed v.chunks) (is_volume n) f s.volumes a front)))
 
   -- a piece of a shelf one of whose volumes has other chunks
   chunks_case : (n : ℕ) (f : List Entry → List Entry) (a : Piece Entry) {C : Type 0} → Contains (shelf_pieces (with_chunks s n f)) a
@@ -121,11 +128,10 @@ module _ (s : ShelfState) (shares : shares_rightly s ≡ true) where
 
   pub held_shares : (h : HeldList) → ((a : Piece Entry) → Contains h.pieces a → Stands s a ⊎ (a.chunk ≡ unmapped_entry)) → shares_rightly (with_held s h) ≡ true
   held_shares h comes = shares_of_old s.geometry.pool_chunks (shelf_pieces s) (shelf_pieces (with_held s h)) shares (λ a at.
-      held_case (s.held ++ h ∷ []) a at (λ back. ⊎_elim
+      held_case (with_held s h).held a at (λ back. ⊎_elim
+      (λ new. comes a new)
       (λ old. inl (in_held a old))
-      (λ new. ⊎_elim (λ piece. comes a piece) (λ bad. absurd (none_in a bad)) (Contains-append_cases h.pieces [] a new))
-      (Contains-append_cases (flat_map (λ (k : HeldList). k.pieces) s.held) (flat_map (λ (k : HeldList). k.pieces) (h ∷ [])) a
-      (subst (λ ps. Contains ps a) (flat_map-append (λ (k : HeldList). k.pieces) s.held (h ∷ [])) back))))
+      (in_put (λ (k : HeldList). k.pieces) (λ (k : HeldList). nat_lt h.number k.number) h s.held a back)))
 
   pub dropped_shares : (n : ℕ) → shares_rightly (without_held s n) ≡ true
   dropped_shares n = shares_of_old s.geometry.pool_chunks (shelf_pieces s) (shelf_pieces (without_held s n)) shares (λ a at.

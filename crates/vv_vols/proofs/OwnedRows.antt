@@ -45,10 +45,10 @@ module _ {R V : Type 0} (map_of : R → MapState) (seen : StoreState Entry → R
     known : AreAllLists old (map map_of ahead ++ ((map_of row ∷ []) ++ (map map_of behind ++ others)))
     known = subst (AreAllLists old) (parts row) lists
 
-    ahead_left : All (IsLeft old new) (map map_of ahead)
+    pub ahead_left : All (IsLeft old new) (map map_of ahead)
     ahead_left = left_ahead old new (map_of row).numbers (map_of row').numbers ex (map map_of ahead) (map map_of behind ++ others) (map_of row ∷ []) (map_of row' ∷ []) known (one_numbers (map_of row)) (one_numbers (map_of row'))
 
-    behind_left : All (IsLeft old new) (map map_of behind ++ others)
+    pub behind_left : All (IsLeft old new) (map map_of behind ++ others)
     behind_left = left_behind old new (map_of row).numbers (map_of row').numbers ex (map map_of ahead) (map map_of behind ++ others) (map_of row ∷ []) (map_of row' ∷ []) known (one_numbers (map_of row)) (one_numbers (map_of row'))
 
     -- all lists are known again,

@@ -1,9 +1,9 @@
 -- What each call makes of a shelf.
-use Rattle.std.specs.Prelude.{ℕ, ◌-◌, ◌==◌, not, List, [], ◌∷◌, ◌++◌, length, replicate, slice_set, filter, Some, nat_lt, if◌then◌else◌}
-use Rattle.vv_flat.specs.Lists.{first_changed, put_before, first_removed, mapped_from}
+use Rattle.std.specs.Prelude.{ℕ, ◌-◌, ◌==◌, Bool, not, zero, suc, List, [], ◌∷◌, ◌++◌, length, map, replicate, slice_set, filter, Some, nat_lt}
+use Rattle.vv_flat.specs.Lists.{first_changed, put_before, first_removed}
 use Rattle.vv_flat.specs.State.{Volume, Piece}
 use Rattle.vv_flat.specs.Chunks.{Entry, unmapped_entry}
-use Rattle.vv_vols.specs.Shelf.{HeldList, ShelfState, is_volume, is_held}
+use Rattle.vv_vols.specs.Shelf.{HeldList, ShelfState, is_volume, is_held, next_held}
 
 -- the entry of a chunk at a place
 abbrev pub placed_at : ℕ → ℕ → Entry
@@ -39,13 +39,24 @@ with_size s n chunks = with_chunks s n (λ old. old ++ replicate (chunks - lengt
 abbrev pub without_fresh : ShelfState → ℕ → ShelfState
 without_fresh s p = record s { fresh = filter (λ q. not (q == p)) s.fresh }
 
+-- so many of the free places are reserved
+abbrev pub with_reserve : ShelfState → ℕ → ShelfState
+with_reserve s n = record s { reserved = n }
+
 -- a fresh place is put into a volume
 abbrev pub with_put : ShelfState → ℕ → ℕ → ℕ → ℕ → ShelfState
 with_put s n index p stamp = with_entry (without_fresh s p) n index (placed_at p stamp)
 
 -- ---- held lists
+-- one more held list
 abbrev pub with_held : ShelfState → HeldList → ShelfState
-with_held s h = record s { held = s.held ++ h ∷ [] }
+with_held s h = record s { held = put_before (λ (k : HeldList). nat_lt h.number k.number) h s.held }
+
+-- a new held list, with the first number that no other has
+abbrev pub new_held : ShelfState → List (Piece Entry) → Bool → ℕ → HeldList
+new_held s pieces is_image left = record { number = next_held s; pieces = pieces; is_image = is_image; left = left }
+
+-- one held list less
 
 abbrev pub without_held : ShelfState → ℕ → ShelfState
 without_held s n = record s { held = first_removed (is_held n) s.held }
@@ -56,4 +67,20 @@ with_pieces s n f = record s { held = first_changed (is_held n) (λ (h : HeldLis
 
 -- an entry of a held list, by its position, is another one; its index stays
 abbrev pub piece_set : ℕ → Entry → List (Piece Entry) → List (Piece Entry)
-piece_set at e pieces = mapped_from (λ i (a : Piece Entry). if i == at then record a { chunk = e } else a) 0 pieces
+piece_set at e [] = []
+piece_set zero e (a ∷ pieces) = record a { chunk = e } ∷ pieces
+piece_set (suc at) e (a ∷ pieces) = a ∷ piece_set at e pieces
+
+-- .. in a shelf
+abbrev pub with_piece : ShelfState → ℕ → ℕ → Entry → ShelfState
+with_piece s n at e = with_pieces s n (piece_set at e)
+
+-- an unmapped entry more at the end of a held list
+abbrev pub with_appended : ShelfState → ℕ → ℕ → ShelfState
+with_appended s n index =
+    let last : Piece Entry = record { index = index; chunk = unmapped_entry } in
+    record s { held = first_changed (is_held n) (λ (h : HeldList). record h { pieces = h.pieces ++ last ∷ []; left = h.left - 1 }) s.held }
+
+-- the entries of pieces
+abbrev pub piece_chunks : List (Piece Entry) → List Entry
+piece_chunks pieces = map (λ (a : Piece Entry). a.chunk) pieces

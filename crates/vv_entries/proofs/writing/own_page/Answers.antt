@@ -1,4 +1,4 @@
-use Rattle.std.proofs.Common.{◌≡◌, ◌/◌, length, slice_index, refl, ap, ◌∙◌, arith}
+use Rattle.std.proofs.Common.{◌≡◌, ◌/◌, length, slice_index, refl, ap, ◌∙◌, arith, get_or-set_other}
 use Rattle.vv_map.specs.Pages.{page_at}
 use Rattle.vv_map.proofs.MapLemmas.{page_within}
 use Rattle.vv_entries.specs.Entries.{named}
@@ -58,3 +58,10 @@ returns-then-unshare-clause-taken g c =
     let old = c.args.store.now in
     let map = c.args.map.now in
     takes-unshared old c.unshare.new.self map c.unshare.new.map (c.args.at / 64) c.if-unshare.ensures.unshared (c.if-unshare.ensures.copied.0 refl) (page_within old map c.requires.of c.args.at c.requires.within)
+
+pub returns-then-unshare-clause-pages : goal.returns-then-unshare-clause-pages
+returns-then-unshare-clause-pages g c = λ j ne.
+    let map = c.args.map.now in
+    let un = c.if-unshare.ensures.unshared in
+    ap (λ ns. slice_index ns j) un.numbers
+    ∙ get_or-set_other map.numbers (c.args.at / 64) j (slice_index c.unshare.new.map.numbers (c.args.at / 64)) 0 ne

@@ -1,9 +1,10 @@
-use Rattle.std.proofs.Common.{ℕ, ◌≡◌, ◌<◌, List, [], ◌∷◌, ◌++◌, length, get_or, slice_index, take, take_all, ap, sym, subst, ◌∙◌, arith}
+use Rattle.std.proofs.Common.{◌≡◌, ◌<◌, [], ◌∷◌, ◌++◌, length, get_or, slice_index, take, take_all, vec_capacity, ap, sym, subst, ◌∙◌, arith}
+use Rattle.std.specs.List.{flat_map}
 use Rattle.std.proofs.lemmas.List.{take_more}
 use Rattle.std.proofs.lemmas.List.Sums.{fold_more}
 use Rattle.vv_map.specs.Rooms.{MapState}
-use Rattle.vv_map.specs.Pages.{StoreState, IsMapOf, count_at, list_of, raised, all_raised}
-use Rattle.vv_map.proofs.MapLemmas.{raised_before, list_of-all_raised, is_map-all_raised}
+use Rattle.vv_map.specs.Pages.{StoreState, IsMapOf, count_at, page_at, list_of, raised, all_raised}
+use Rattle.vv_map.proofs.MapLemmas.{raised_before, is_map-same, list_of-all_raised, is_map-all_raised}
 use Rattle.vv_map.proofs.page_store.PageStore.share.Goals as goal
 
 pub raise-requires-clause-named : goal.raise-requires-clause-named
@@ -53,17 +54,23 @@ loop-number-preserved g c =
       memory = c.push_reserved.ensures.capacity ∙ c.loop-number.invariant.memory;
     }
 
+pub returns-clause-numbers : goal.returns-clause-numbers
+returns-clause-numbers g c =
+    let map = c.args.map.now in
+    let i = c.loop-number.number-index in
+    let items : c.deref-number-items.result.now ≡ map.numbers = c.deref-number-items.ensures.value ∙ ap (λ m. m.numbers) c.map.view_is in
+    let size = ap length items in
+    c.loop-number.invariant.numbers ∙ take_all i map.numbers (omega (arith, c.loop-number-test.false, size))
+
 pub returns-clause-list : goal.returns-clause-list
 returns-clause-list g c =
     let store = c.args.self.now in
     let map = c.args.map.now in
     let i = c.loop-number.number-index in
-    let numbers : c.map.inside.numbers.items ≡ map.numbers = ap (λ m. m.numbers) c.map.view_is in
-    let items : c.deref-number-items.result.now ≡ map.numbers = c.deref-number-items.ensures.value ∙ numbers in
+    let items : c.deref-number-items.result.now ≡ map.numbers = c.deref-number-items.ensures.value ∙ ap (λ m. m.numbers) c.map.view_is in
     let size = ap length items in
-    let all : c.loop-number.numbers.items ≡ c.map.inside.numbers.items = c.loop-number.invariant.numbers ∙ take_all i map.numbers (omega (arith, c.loop-number-test.false, size)) ∙ sym numbers in
-    ap (λ (xs : List ℕ). let m : MapState = record { numbers = xs; len = c.map.inside.len } in list_of c.loop-number.self m) all
-    ∙ ap (λ (m : MapState). list_of c.loop-number.self m) c.map.view_is
+    let all : c.loop-number.numbers.items ≡ map.numbers = c.loop-number.invariant.numbers ∙ take_all i map.numbers (omega (arith, c.loop-number-test.false, size)) in
+    ap (flat_map (page_at c.loop-number.self)) all
     ∙ ap (λ (s : StoreState g.row.E.Denot). list_of s map) c.loop-number.invariant.raised
     ∙ list_of-all_raised store (take i map.numbers) map
 
@@ -72,10 +79,9 @@ returns-clause-of g c =
     let store = c.args.self.now in
     let map = c.args.map.now in
     let i = c.loop-number.number-index in
-    let numbers : c.map.inside.numbers.items ≡ map.numbers = ap (λ m. m.numbers) c.map.view_is in
-    let items : c.deref-number-items.result.now ≡ map.numbers = c.deref-number-items.ensures.value ∙ numbers in
+    let items : c.deref-number-items.result.now ≡ map.numbers = c.deref-number-items.ensures.value ∙ ap (λ m. m.numbers) c.map.view_is in
     let size = ap length items in
-    let all : c.loop-number.numbers.items ≡ c.map.inside.numbers.items = c.loop-number.invariant.numbers ∙ take_all i map.numbers (omega (arith, c.loop-number-test.false, size)) ∙ sym numbers in
-    subst (λ (xs : List ℕ). let m : MapState = record { numbers = xs; len = c.map.inside.len } in IsMapOf c.loop-number.self m) (sym all)
-    (subst (λ (m : MapState). IsMapOf c.loop-number.self m) (sym c.map.view_is)
-    (subst (λ (s : StoreState g.row.E.Denot). IsMapOf s map) (sym c.loop-number.invariant.raised) (is_map-all_raised store (take i map.numbers) map c.requires.of)))
+    let all : c.loop-number.numbers.items ≡ map.numbers = c.loop-number.invariant.numbers ∙ take_all i map.numbers (omega (arith, c.loop-number-test.false, size)) in
+    let result : MapState = record { numbers = c.loop-number.numbers.items; len = c.map.inside.len; memory = vec_capacity c.loop-number.numbers } in
+    is_map-same c.loop-number.self map result all (ap (λ m. m.len) c.map.view_is)
+    (subst (λ (s : StoreState g.row.E.Denot). IsMapOf s map) (sym c.loop-number.invariant.raised) (is_map-all_raised store (take i map.numbers) map c.requires.of))

@@ -1,6 +1,6 @@
 use Rattle.std.proofs.Common.{◌≡◌, ◌+◌, vec_len, vec_capacity}
 use Rattle.vv_map.specs.Pages.{Appends}
-use Rattle.vv_map.proofs.page_store.PageStore.append.Given as goal
+use Rattle.vv_map.proofs.page_store.PageStore.append_pages.Given as goal
 
 abbrev pub invariant-loop-i : goal.invariant-loop-i
 invariant-loop-i g l = record {

@@ -1,0 +1,3 @@
+pub mod PutPieces
+pub mod HeldPiece
+pub mod DifferenceSteps

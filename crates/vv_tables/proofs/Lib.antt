@@ -1,0 +1,15 @@
+pub mod Walks
+pub mod HeldSums
+pub mod ShelfCounts
+pub mod ShapeVolumes
+pub mod Limits
+pub mod Containers
+pub mod Drops
+pub mod EmptyTables
+pub mod Permuted
+pub mod HeldChanges
+pub mod HeldKept
+pub mod HeldRows
+pub mod HeldEnds
+pub mod HeldTargets
+pub mod SeenChanges

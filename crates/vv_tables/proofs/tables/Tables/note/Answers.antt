@@ -1,0 +1,25 @@
+use Rattle.std.proofs.Common.{ℕ, [], refl, ap, ◌∙◌}
+use Rattle.vv_flat.specs.State.{Volume, Durable}
+use Rattle.vv_flat.specs.Chunks.{Entry, shape_of_tables}
+use Rattle.vv_vols.specs.Rows.{volume_with}
+use Rattle.vv_tables.specs.Seen.{TablesView, seen_durable}
+use Rattle.vv_tables.proofs.ShapeVolumes.{of_some, of_none}
+use Rattle.vv_units.specs.Pairs.{note_of}
+use Rattle.vv_flat.specs.Changes.{metadata_of}
+use Rattle.vv_tables.proofs.tables.Tables.note.Goals as goal
+
+pub returns-in-Some : goal.returns-in-Some
+returns-in-Some c =
+    let i = c.self.inside in
+    let d : Durable Entry = seen_durable i.lsn i.shelf.shelf i.containers i.bindings i.tasks i.clones.items i.copies.items in
+    c.get.ensures
+    ∙ ap (λ ps. note_of ps c.args.key.now)
+    (of_some d c.args.id.0 (volume_with c.args.id.0 c.in-Some.head.now []) (λ (v : Volume ℕ). v.metadata) [] c.in-Some.ensures (λ v. refl))
+    ∙ ap (λ (t : TablesView). note_of (metadata_of (shape_of_tables t.durable) c.args.id.0) c.args.key.now) c.self.view_is
+
+pub returns-in-None : goal.returns-in-None
+returns-in-None c =
+    let i = c.self.inside in
+    let d : Durable Entry = seen_durable i.lsn i.shelf.shelf i.containers i.bindings i.tasks i.clones.items i.copies.items in
+    ap (λ ps. note_of ps c.args.key.now) (of_none d c.args.id.0 (λ (v : Volume ℕ). v.metadata) [] c.in-None.ensures)
+    ∙ ap (λ (t : TablesView). note_of (metadata_of (shape_of_tables t.durable) c.args.id.0) c.args.key.now) c.self.view_is

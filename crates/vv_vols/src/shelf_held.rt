@@ -1,5 +1,5 @@
 //! The lists that tasks hold.
-ghost use Rattle.std.specs.Prelude.{ℕ, [], ◌≡◌, ◌+◌, ◌-◌, ◌/◌, ◌≤◌, ◌<◌, true, false, length, IsSome, IsTrue, Some, None, replicate, option_map, slice_get};
+ghost use Rattle.std.specs.Prelude.{ℕ, List, [], ◌∷◌, ◌≡◌, ◌+◌, ◌-◌, ◌/◌, ◌≤◌, ◌<◌, true, false, length, IsSome, IsTrue, Some, None, replicate, option_map, slice_get};
 ghost use Rattle.std.specs.List.{Contains};
 ghost use Rattle.vv_map.specs.Pages.{pages_for};
 ghost use Rattle.vv_flat.specs.Lists.{numbers_from};
@@ -8,6 +8,7 @@ ghost use Rattle.vv_flat.specs.Chunks.{Entry as SeenEntry, unmapped_entry};
 ghost use Rattle.vv_vols.specs.Shelf.{ShelfState, shares_rightly, volume_in, held_in, size_in, chunks_in, shelf_entries, next_held, pieces_in, held_size, piece_at, entry_at, index_at, chunk_at, left_in, is_image_in};
 ghost use Rattle.vv_vols.specs.Calls.{with_held, new_held, with_appended, without_held, with_piece, with_entry, with_chunks, with_made, without_fresh, piece_chunks, placed_at};
 ghost use Rattle.vv_vols.specs.Conditions.{is_new_stamp, HasEveryIndex, IsAbove, Stands};
+ghost use Rattle.vv_vols.specs.Rooms.{Given, for_list, for_change, AreGood, AreOfOthers};
 ghost use Rattle.vv_vols.specs.Rows.{is_own, IsChangeRoom, KeepsOwn, KeepsOwnBut, seen_entry, volume_with, IsListRoom};
 
 use crate::head::Head;
@@ -33,6 +34,7 @@ impl Shelf {
         ensures shelf { self.new.shelf ≡ with_held self.old.shelf (new_held self.old.shelf (indexed (replicate chunks unmapped_entry)) false 0) }
         ensures rooms { self.new.rooms + 1 ≡ self.old.rooms }
         ensures kept { KeepsOwn self.old self.new }
+        ensures others { (given : List Given) → AreGood self.old (for_list chunks room ∷ given) → AreGood self.new given }
     {
         let map = self.entries.make(chunks, room.into_pages());
         let number = add_held(&mut self.held, map, HeldIndexes::FromZero, false, 0);
@@ -57,6 +59,8 @@ impl Shelf {
         ensures shelf { self.new.shelf ≡ with_held self.old.shelf (new_held self.old.shelf (indexed (chunks_in self.old.shelf id.0)) true 0) }
         ensures rooms { self.new.rooms + 1 ≡ self.old.rooms }
         ensures kept { KeepsOwnBut id.0 self.old self.new }
+        ensures others { (given : List Given) → AreOfOthers id.0 given
+            → AreGood self.old (for_list (size_in self.old.shelf id.0) room ∷ given) → AreGood self.new given }
         ensures steps { steps.new ≡ steps.old + pages_for (size_in self.old.shelf id.0) }
     {
         let at = place_of(&self.volumes, id);
@@ -79,6 +83,7 @@ impl Shelf {
         ensures shelf { self.new.shelf ≡ with_held self.old.shelf (new_held self.old.shelf [] false room.indexes) }
         ensures rooms { self.new.rooms + 1 ≡ self.old.rooms }
         ensures kept { KeepsOwn self.old self.new }
+        ensures others { (given : List Given) → AreGood self.old (for_list room.indexes room ∷ given) → AreGood self.new given }
     {
         let mut listed = room.into_list();
         let map = self.entries.begin(&mut listed.room);
@@ -99,6 +104,7 @@ impl Shelf {
         ensures shelf { self.new.shelf ≡ with_appended self.old.shelf held.old.number index }
         ensures rooms { self.new.rooms ≡ self.old.rooms }
         ensures kept { KeepsOwn self.old self.new }
+        ensures others { (given : List Given) → AreGood self.old given → AreGood self.new given }
     {
         let at = held_place(&self.held, held);
         let row = &mut self.held[at];
@@ -115,6 +121,7 @@ impl Shelf {
         ensures shelf { self.new.shelf ≡ with_made (without_held self.old.shelf held.number) (volume_with id.0 head (piece_chunks (pieces_in self.old.shelf held.number))) }
         ensures rooms { self.new.rooms ≡ self.old.rooms }
         ensures kept { KeepsOwn self.old self.new }
+        ensures others { (given : List Given) → AreGood self.old given → AreGood self.new given }
     {
         let HeldRow {
             number: _,
@@ -141,6 +148,7 @@ impl Shelf {
         ensures shelf { self.new.shelf ≡ with_chunks (without_held self.old.shelf held.number) id.0 (λ _. piece_chunks (pieces_in self.old.shelf held.number)) }
         ensures rooms { self.new.rooms ≡ self.old.rooms }
         ensures kept { KeepsOwnBut id.0 self.old self.new }
+        ensures others { (given : List Given) → AreOfOthers id.0 given → AreGood self.old given → AreGood self.new given }
     {
         let place = place_of(&self.volumes, id);
         let at = held_place(&self.held, &held);
@@ -161,6 +169,7 @@ impl Shelf {
         ensures shelf { self.new.shelf ≡ with_piece (without_fresh self.old.shelf fresh) held.old.number at (placed_at fresh stamp) }
         ensures rooms { self.new.rooms ≡ self.old.rooms }
         ensures kept { KeepsOwn self.old self.new }
+        ensures others { (given : List Given) → AreGood self.old given → AreGood self.new given }
     {
         let place = held_place(&self.held, held);
         let _counts = self.entries.pool();
@@ -187,6 +196,7 @@ impl Shelf {
         ensures shelf { self.new.shelf ≡ with_piece self.old.shelf held.old.number at (placed_at place.0 stamp) }
         ensures rooms { self.new.rooms ≡ self.old.rooms }
         ensures kept { KeepsOwn self.old self.new }
+        ensures others { (given : List Given) → AreGood self.old given → AreGood self.new given }
         ensures rise { steps.old ≤ steps.new }
         ensures steps { steps.new ≤ steps.old + 1 }
     {
@@ -218,6 +228,8 @@ impl Shelf {
         ensures rooms { self.new.rooms ≡ self.old.rooms }
         ensures own { is_own self.new id.0 (index / 64) ≡ true }
         ensures kept { KeepsOwn self.old self.new }
+        ensures others { (first count : ℕ) (given : List Given) → first ≤ index → index < first + count
+            → AreGood self.old (for_change id.0 first count room.old ∷ given) → AreGood self.new (for_change id.0 first count room.new ∷ given) }
         ensures room { is_own self.old id.0 (index / 64) ≡ true → room.new.pages ≡ room.old.pages }
         ensures left { room.old.pages ≤ room.new.pages + 1 }
         ensures good { (first count : ℕ) → first ≤ index → index < first + count → IsChangeRoom self.old id.0 first count room.old → IsChangeRoom self.new id.0 first count room.new }
@@ -240,6 +252,7 @@ impl Shelf {
         ensures shelf { self.new.shelf ≡ without_held self.old.shelf held.number }
         ensures rooms { self.new.rooms ≡ self.old.rooms }
         ensures kept { KeepsOwn self.old self.new }
+        ensures others { (given : List Given) → AreGood self.old given → AreGood self.new given }
     {
         let HeldRow {
             number: _,

@@ -7,6 +7,7 @@ use Rattle.vv_vols.proofs.SeenPlaces.{fresh_kept}
 use Rattle.vv_vols.proofs.FoundSplit.{found_there}
 use Rattle.vv_vols.proofs.HeldRead.{held_row_found, held_of, held_few}
 use Rattle.vv_vols.proofs.RemovedHeld.{removed_held_seen, removed_held_kept, removed_held_own}
+use Rattle.vv_vols.proofs.GoodRooms.{good_kept}
 use Rattle.vv_vols.proofs.shelf.Shelf.drop_image.Goals as goal
 
 pub take_held-map-requires : goal.take_held-map-requires
@@ -65,3 +66,7 @@ returns-clause-kept c = λ n k own.
     let pool = c.release.ensures.pool in
     removed_held_own inside.geometry inside.entries c.release.new.self inside.volumes.items inside.held.items c.take_held-map.new.rows.items inside.total (inside.total - c.len.result) inside.promised inside.volumes.cap inside.held.cap c.args.held.number c.take_held-map.result
     found c.take_held-map.ensures.items c.release.ensures.others pool.size pool.reserved (fresh_kept inside.entries.pool c.release.new.self.pool pool) less c.self.invariant n k (ap (λ (v : ShelfView). is_own v n k) c.self.view_is ∙ own)
+
+pub returns-clause-others : goal.returns-clause-others
+returns-clause-others c = λ given good.
+    good_kept c.args.self.now _ given (returns-clause-kept c) (sym (ap (λ (v : ShelfView). v.rooms) c.self.view_is)) good

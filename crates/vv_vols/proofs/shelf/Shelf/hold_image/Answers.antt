@@ -12,6 +12,7 @@ use Rattle.vv_vols.proofs.SeenShelf.{row_found}
 use Rattle.vv_vols.proofs.WrittenRow.{here_of, here_size}
 use Rattle.vv_vols.proofs.HeldTarget.{held_unused, held_numbers_seen}
 use Rattle.vv_vols.proofs.HeldImage.{count_few, image_seen, image_kept, image_own}
+use Rattle.vv_vols.proofs.GoodRooms.{good_spent_but}
 use Rattle.vv_vols.proofs.shelf.Shelf.hold_image.Goals as goal
 
 pub place_of-at-requires : goal.place_of-at-requires
@@ -137,3 +138,9 @@ returns-clause-steps g c =
     let at = ap (position (is_row id)) (sym c.deref.ensures.value) ∙ c.place_of-at.ensures in
     let size : size_in c.args.self.now.shelf id ≡ row.map.len = ap (λ (v : ShelfView). size_in v.shelf id) (sym c.self.view_is) ∙ here_size inside.geometry inside.entries inside.volumes.items inside.held.items inside.total inside.promised inside.volumes.cap inside.held.cap c.place_of-at.result id row at c.index-row.ensures c.self.invariant in
     c.share-map.ensures.steps ∙ ap (λ k. c.args.steps.now + pages_for k) (sym size)
+
+pub returns-clause-others : goal.returns-clause-others
+returns-clause-others g c = λ given others good.
+    let rooms = ap (λ (v : ShelfView). v.rooms) c.self.view_is in
+    let some = c.requires.rows in
+    good_spent_but c.args.self.now _ c.args.id.0 (size_in c.args.self.now.shelf c.args.id.0) c.args.room given (returns-clause-kept g c) (omega arith) others good

@@ -7,9 +7,10 @@ use Rattle.vv_vols.specs.declared.row.HeldIndexes.TheVariants.{Listed}
 use Rattle.vv_vols.specs.declared.row.ListedIndexes.{ListedIndexes}
 use Rattle.vv_vols.specs.Shelf.{HeldName, held_in, first_gap, next_held}
 use Rattle.vv_vols.specs.Calls.{with_held, new_held}
-use Rattle.vv_vols.specs.Rows.{ShelfView, is_held_above, seen_shelf, IsShelf}
+use Rattle.vv_vols.specs.Rows.{is_own, ShelfView, is_held_above, seen_shelf, IsShelf}
 use Rattle.vv_vols.proofs.HeldTarget.{held_unused, held_numbers_seen}
 use Rattle.vv_vols.proofs.HeldNone.{none_seen, none_kept}
+use Rattle.vv_vols.proofs.GoodRooms.{good_spent}
 use Rattle.vv_vols.proofs.shelf.Shelf.hold_none.Goals as goal
 
 pub invariant_of-self : goal.invariant_of-self
@@ -62,3 +63,9 @@ returns-clause-shelf c =
     ∙ none_seen inside.geometry inside.entries inside.volumes.items inside.held.items inside.total inside.promised inside.volumes.cap inside.held.cap c.add_held-number.new.rows.cap n memory listed c.add_held-number.ensures.number none numbers pages some c.add_held-number.ensures.capacity c.self.invariant
     ∙ ap (λ (v : ShelfView). with_held v.shelf (new_held v.shelf [] false (vec_capacity l.indexes))) c.self.view_is
     ∙ ap (λ k. with_held c.args.self.now.shelf (new_held c.args.self.now.shelf [] false k)) cap
+
+pub returns-clause-others : goal.returns-clause-others
+returns-clause-others c = λ given good.
+    let rooms = ap (λ (v : ShelfView). v.rooms) c.self.view_is in
+    let some = c.requires.rows in
+    good_spent c.args.self.now _ c.args.room.indexes c.args.room given (λ n k own. ap (λ (v : ShelfView). is_own v n k) c.self.view_is ∙ own) (omega arith) good

@@ -7,6 +7,7 @@ use Rattle.vv_vols.specs.Calls.{with_held, new_held}
 use Rattle.vv_vols.specs.Rows.{ShelfView, is_own, seen_shelf, IsShelf}
 use Rattle.vv_vols.proofs.Numbers.{pages_left}
 use Rattle.vv_vols.proofs.HeldTarget.{held_unused, held_numbers_seen, target_seen, target_kept, target_own}
+use Rattle.vv_vols.proofs.GoodRooms.{good_spent}
 use Rattle.vv_vols.proofs.shelf.Shelf.hold_target.Goals as goal
 
 pub make-map-requires-clause-unused : goal.make-map-requires-clause-unused
@@ -65,3 +66,9 @@ returns-clause-kept c = λ n k own.
     let ens = c.make-map.ensures in
     target_own inside.geometry inside.entries c.make-map.new.self inside.volumes.items inside.held.items inside.total inside.promised inside.volumes.cap inside.held.cap c.add_held-number.new.rows.cap c.add_held-number.result c.args.chunks c.make-map.result
     c.add_held-number.ensures.number ens.of ens.others ens.taken ens.pool ens.list ens.len fits some c.add_held-number.ensures.capacity c.self.invariant n k (ap (λ (v : ShelfView). is_own v n k) c.self.view_is ∙ own)
+
+pub returns-clause-others : goal.returns-clause-others
+returns-clause-others c = λ given good.
+    let rooms = ap (λ (v : ShelfView). v.rooms) c.self.view_is in
+    let some = c.requires.rows in
+    good_spent c.args.self.now _ c.args.chunks c.args.room given (returns-clause-kept c) (omega arith) good

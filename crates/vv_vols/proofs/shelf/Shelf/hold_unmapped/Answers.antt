@@ -9,6 +9,7 @@ use Rattle.vv_vols.specs.Rows.{ShelfView, is_own, is_held_row}
 use Rattle.vv_vols.proofs.Numbers.{pages_left}
 use Rattle.vv_vols.proofs.HeldRead.{held_row_found, held_of, held_few, held_len_is, held_indexed, held_room}
 use Rattle.vv_vols.proofs.HeldNone.{appended_left, appended_alone, appended_seen, appended_kept, appended_own}
+use Rattle.vv_vols.proofs.GoodRooms.{good_kept}
 use Rattle.vv_vols.proofs.shelf.Shelf.hold_unmapped.Goals as goal
 
 pub held_place-at-requires : goal.held_place-at-requires
@@ -159,3 +160,7 @@ returns-clause-kept c = λ v k own.
     let is : rows' ≡ set inside.held.items (position_or_len (is_held_row n) inside.held.items) row' = ap (λ k. set inside.held.items k row') (sym place.0) in
     let ens = c.append_entry.ensures in
     appended_own inside.geometry inside.entries inside.volumes.items inside.held.items inside.total inside.promised inside.volumes.cap inside.held.cap n row found c.self.invariant c.append_entry.new.entries rows' row' c.args.index is ens.number ens.image ens.allocated ens.list ens.len ens.of ens.others ens.taken ens.pool ens.indexes ens.left ens.room fits v k (ap (λ (w : ShelfView). is_own w v k) c.self.view_is ∙ own)
+
+pub returns-clause-others : goal.returns-clause-others
+returns-clause-others c = λ given good.
+    good_kept c.args.self.now _ given (returns-clause-kept c) (sym (ap (λ (v : ShelfView). v.rooms) c.self.view_is)) good

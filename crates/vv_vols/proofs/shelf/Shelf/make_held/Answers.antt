@@ -11,6 +11,7 @@ use Rattle.vv_vols.proofs.ReadRow.{row_none}
 use Rattle.vv_vols.proofs.FoundSplit.{found_there}
 use Rattle.vv_vols.proofs.HeldRead.{held_row_found}
 use Rattle.vv_vols.proofs.MadeHeld.{chunks_held, made_held_seen, made_held_kept, made_held_own}
+use Rattle.vv_vols.proofs.GoodRooms.{good_kept}
 use Rattle.vv_vols.proofs.shelf.Shelf.make_held.Goals as goal
 
 pub take_held-map-requires : goal.take_held-map-requires
@@ -69,3 +70,7 @@ returns-clause-kept c = λ v k own.
     let whole : HasEveryIndex (seen_shelf inside.geometry inside.entries inside.volumes.items inside.held.items) n = subst (λ (v : ShelfView). HasEveryIndex v.shelf n) (sym c.self.view_is) c.requires.whole in
     ap (λ (vs : List VolumeRow). own_in (map (seen_pages inside.entries.store) vs) v k) c.put_row.ensures.items
     ∙ made_held_own inside.geometry inside.entries inside.volumes.items inside.held.items c.take_held-map.new.rows.items inside.total inside.promised inside.volumes.cap inside.held.cap c.put_row.new.rows.cap n row row' found c.take_held-map.ensures.items unused refl refl whole c.put_row.ensures.capacity c.self.invariant v k (ap (λ (w : ShelfView). is_own w v k) c.self.view_is ∙ own)
+
+pub returns-clause-others : goal.returns-clause-others
+returns-clause-others c = λ given good.
+    good_kept c.args.self.now _ given (returns-clause-kept c) (sym (ap (λ (v : ShelfView). v.rooms) c.self.view_is)) good

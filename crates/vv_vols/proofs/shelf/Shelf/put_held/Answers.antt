@@ -17,6 +17,7 @@ use Rattle.vv_vols.proofs.FreshPut.{mapped_stamp, new_place}
 use Rattle.vv_vols.proofs.HeldRead.{held_row_found, held_of}
 use Rattle.vv_vols.proofs.HeldShares.{held_put_shares}
 use Rattle.vv_vols.proofs.HeldFilled.{filled_within, filled_alone, few_filled, filled_seen, filled_kept, filled_own}
+use Rattle.vv_vols.proofs.GoodRooms.{good_kept}
 use Rattle.vv_vols.proofs.shelf.Shelf.put_held.Goals as goal
 
 pub held_place-place-requires : goal.held_place-place-requires
@@ -133,3 +134,7 @@ returns-clause-kept c = λ v k own.
     let place = position_some (is_held_row n) inside.held.items c.held_place-place.result at in
     let is : rows' ≡ set inside.held.items (position_or_len (is_held_row n) inside.held.items) row' = ap (λ k. set inside.held.items k row') (sym place.0) in
     filled_own inside.geometry inside.entries inside.volumes.items inside.held.items inside.total inside.promised inside.volumes.cap inside.held.cap n row found c.self.invariant c.fill_fresh.new.self rows' c.fill_fresh.new.map (row.allocated + 1) c.args.at e is unmapped (mapped_stamp (seen_shelf inside.geometry inside.entries inside.volumes.items inside.held.items) (index_at (seen_shelf inside.geometry inside.entries inside.volumes.items inside.held.items) n c.args.at) c.args.stamp is_stamp) ens.list ens.same ens.of ens.others places ens.pool.reserved (filter (λ q. not (q == p)) (fresh_from 0 pool.places)) fresh_is refl v k (ap (λ (w : ShelfView). is_own w v k) c.self.view_is ∙ own)
+
+pub returns-clause-others : goal.returns-clause-others
+returns-clause-others c = λ given good.
+    good_kept c.args.self.now _ given (returns-clause-kept c) (sym (ap (λ (v : ShelfView). v.rooms) c.self.view_is)) good

@@ -7,7 +7,7 @@ use Rattle.vv_vols.specs.declared.row.VolumeRow.{VolumeRow}
 use Rattle.vv_vols.specs.Shelf.{volume_in, size_in, entry_at, index_at, chunk_at}
 use Rattle.vv_vols.specs.Calls.{with_entry}
 use Rattle.vv_vols.specs.Conditions.{Stands}
-use Rattle.vv_vols.specs.Rows.{ShelfView, RoomView, is_own, is_row, seen_entry, seen_shelf, seen_pages, own_pages, fresh_from}
+use Rattle.vv_vols.specs.Rows.{ShelfView, RoomView, is_own, is_row, seen_entry, seen_shelf, seen_view, seen_pages, own_pages, fresh_from}
 use Rattle.vv_vols.proofs.SeenShelf.{row_found}
 use Rattle.vv_vols.proofs.SeenPlaces.{fresh_kept}
 use Rattle.vv_vols.proofs.Kept.{replaced_shares}
@@ -19,6 +19,7 @@ use Rattle.vv_vols.proofs.WrittenRow.{here_of, here_size, here_own, written_seen
 use Rattle.vv_vols.proofs.RoomsKept.{written_room}
 use Rattle.vv_vols.proofs.HeldShares.{piece_stands, chunk_is}
 use Rattle.vv_vols.proofs.StandsCounted.{entry_counted}
+use Rattle.vv_vols.proofs.GoodRooms.{good_written}
 use Rattle.vv_vols.proofs.shelf.Shelf.replace_entry.Goals as goal
 
 pub place_of-place-requires : goal.place_of-place-requires
@@ -219,4 +220,13 @@ returns-clause-good g c = λ first count low high good.
     let now : ShelfView = record { shelf = c.args.self.now.shelf; pages = map (seen_pages c.put_shared.new.self.store) (set c.self.inside.volumes.items c.place_of-place.result row); rooms = c.args.self.now.rooms } in
     let room : RoomView = record { pages = c.put_shared.new.room.pages; numbers = c.args.room.now.numbers; indexes = c.args.room.now.indexes; head = c.args.room.now.head } in
     written_room c.args.self.now now c.args.id.0 first count c.args.index c.args.room.now room (returns-clause-kept g c) (returns-clause-own g c) (returns-clause-room g c)
+    (let left = c.put_shared.ensures.left in let same = ap (λ (r : RoomView). r.pages) c.room.view_is in omega arith) low high good
+
+pub returns-clause-others : goal.returns-clause-others
+returns-clause-others g c = λ first count given low high good.
+    let old_row = c.index_mut-row.result.now in
+    let row : VolumeRow = record { id = old_row.id; head = old_row.head; map = c.put_shared.new.map; allocated = c.recounted-row.result } in
+    let now = seen_view c.self.inside.geometry c.put_shared.new.self (set c.self.inside.volumes.items c.place_of-place.result row) c.self.inside.held.items c.self.inside.promised in
+    let room : RoomView = record { pages = c.put_shared.new.room.pages; numbers = c.put_shared.new.room.numbers; indexes = c.room.inside.indexes.cap; head = c.room.inside.head } in
+    good_written c.args.self.now now c.args.id.0 first count c.args.index c.args.room.now room given (returns-clause-kept g c) (sym (ap (λ (v : ShelfView). v.rooms) c.self.view_is)) (returns-clause-own g c) (returns-clause-room g c)
     (let left = c.put_shared.ensures.left in let same = ap (λ (r : RoomView). r.pages) c.room.view_is in omega arith) low high good

@@ -12,6 +12,7 @@ use Rattle.vv_vols.specs.Rows.{ShelfView, is_own, is_row, is_held_row, seen_held
 use Rattle.vv_vols.proofs.SeenShelf.{row_found}
 use Rattle.vv_vols.proofs.HeldRead.{held_row_found, held_seen_found}
 use Rattle.vv_vols.proofs.SwappedHeld.{swapped_seen, swapped_kept, swapped_own, found_changed, removed_changed}
+use Rattle.vv_vols.proofs.GoodRooms.{good_kept_but}
 use Rattle.vv_vols.proofs.shelf.Shelf.replace_list.Goals as goal
 
 pub place_of-place-requires : goal.place_of-place-requires
@@ -113,3 +114,8 @@ returns-clause-kept c = λ w k ne own.
     let h_is : held' ≡ set inside.held.items (position_or_len (is_held_row n) inside.held.items) c.swap_lists.new.row = ap (λ k. set inside.held.items k c.swap_lists.new.row) (sym h_place.0) in
     let whole : HasEveryIndex (seen_shelf inside.geometry inside.entries inside.volumes.items inside.held.items) n = subst (λ (w : ShelfView). HasEveryIndex w.shelf n) (sym c.self.view_is) c.requires.whole in
     c.drop_image.ensures.kept w k (swapped_own inside.geometry inside.entries inside.volumes.items volumes' inside.held.items held' inside.total inside.promised inside.volumes.cap inside.held.cap id n v c.swap_lists.new.volume h c.swap_lists.new.row v_found h_found v_is h_is c.swap_lists.ensures.volume c.swap_lists.ensures.row whole c.self.invariant w k ne (ap (λ (s : ShelfView). is_own s w k) c.self.view_is ∙ own))
+
+pub returns-clause-others : goal.returns-clause-others
+returns-clause-others c = λ given others good.
+    good_kept_but c.args.self.now c.drop_image.new.self c.args.id.0 given (returns-clause-kept c)
+    (sym (ap (λ (v : ShelfView). v.rooms) c.self.view_is) ∙ sym c.drop_image.ensures.rooms) others good

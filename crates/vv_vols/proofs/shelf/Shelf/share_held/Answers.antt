@@ -17,6 +17,7 @@ use Rattle.vv_vols.proofs.StandsCounted.{entry_counted, stands_stamped}
 use Rattle.vv_vols.proofs.HeldRead.{held_row_found, held_of}
 use Rattle.vv_vols.proofs.HeldShares.{held_stands_shares}
 use Rattle.vv_vols.proofs.HeldFilled.{filled_within, filled_alone, few_filled, filled_seen, filled_kept, filled_own}
+use Rattle.vv_vols.proofs.GoodRooms.{good_kept}
 use Rattle.vv_vols.proofs.shelf.Shelf.share_held.Goals as goal
 
 pub held_place-position-requires : goal.held_place-position-requires
@@ -137,3 +138,7 @@ returns-clause-kept g c = λ v k own.
     let place = position_some (is_held_row n) inside.held.items c.held_place-position.result at in
     let is : rows' ≡ set inside.held.items (position_or_len (is_held_row n) inside.held.items) row' = ap (λ k. set inside.held.items k row') (sym place.0) in
     filled_own inside.geometry inside.entries inside.volumes.items inside.held.items inside.total inside.promised inside.volumes.cap inside.held.cap n row found c.self.invariant c.fill_shared.new.self rows' c.fill_shared.new.map (row.allocated + 1) c.args.at e is unmapped (stands_stamped (seen_shelf inside.geometry inside.entries inside.volumes.items inside.held.items) (index_at (seen_shelf inside.geometry inside.entries inside.volumes.items inside.held.items) n c.args.at) p c.args.stamp c.self.invariant.lists.shares stands) list ens.same ens.of ens.others ens.pool.size ens.pool.reserved (fresh_from 0 inside.entries.pool.places) fresh_is refl v k (ap (λ (w : ShelfView). is_own w v k) c.self.view_is ∙ own)
+
+pub returns-clause-others : goal.returns-clause-others
+returns-clause-others g c = λ given good.
+    good_kept c.args.self.now _ given (returns-clause-kept g c) (sym (ap (λ (v : ShelfView). v.rooms) c.self.view_is)) good

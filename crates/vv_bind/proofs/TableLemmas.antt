@@ -12,7 +12,7 @@ use Rattle.vv_flat.proofs.Shares.{and_left, and_right, and_both}
 use Rattle.vv_flat.proofs.Known.{all-put, all-changed, all-found, all-removed, all-filter}
 use Rattle.vv_bind.specs.declared.fault.BindFault.{BindFault}
 use Rattle.vv_bind.specs.declared.fault.BindFault.TheVariants.{NoEndpoint, TooManyCount, TooManyBindings}
-use Rattle.vv_bind.specs.Table.{BindState, IsHost, IsKept, numbers, address, bind_fault, with_one_more, context_below, binding_below, is_host_number, has_host_number, has_endpoints, are_endpoints, is_of_a_host}
+use Rattle.vv_bind.specs.Table.{BindState, IsHost, IsKept, numbers, address, bind_fault, with_one_more, context_below, binding_below, has_host_number, has_endpoints, are_endpoints, is_of_a_host}
 use Rattle.vv_flat.proofs.Positions.{length-put_before, found_is, found_passes, not_found, changed_step, is_some_at}
 use Rattle.vv_flat.proofs.KeepLists.{rise-removed, rise-put, rise-changed, rise-filter}
 use Rattle.vv_bind.proofs.RowLemmas.{binding_through, address_total}

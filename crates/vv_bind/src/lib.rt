@@ -4,6 +4,7 @@
 mod binding;
 mod context;
 mod fault;
+mod questions_for_plans;
 mod rows;
 mod table;
 #[cfg(test)]

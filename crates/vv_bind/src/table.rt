@@ -16,8 +16,8 @@ use vv_units::{EndpointId, HostId, NoMemory, Secondary, VolumeId};
 
 /// The contexts that were set, and the bindings, of at most 1024. It must be closed at its end.
 pub struct BindTable {
-    contexts: Vec<HostContext>,
-    bindings: Vec<Binding>,
+    pub(crate) contexts: Vec<HostContext>,
+    pub(crate) bindings: Vec<Binding>,
 }
 
 impl Model for BindTable {

@@ -1,12 +1,12 @@
 -- Lists of addresses in rising order.
-use Rattle.std.proofs.Common.{◌≡◌, ◌∙◌, ℕ, ◌+◌, ◌≤◌, ◌||◌, ◌&&◌, ◌<◌, refl, Bool, true, false, not, List, [], ◌∷◌, length, IsTrue, ap, sym, subst, arith}
+use Rattle.std.proofs.Common.{filter, ◌≡◌, ◌∙◌, ℕ, ◌+◌, ◌≤◌, ◌||◌, ◌&&◌, ◌<◌, refl, Bool, true, false, List, [], ◌∷◌, length, IsTrue, ap, sym, subst, arith}
 use Rattle.std.specs.Prelude.{nat_lt}
 use Rattle.std.specs.List.{position_or_len, insert, list_all}
 use Rattle.std.proofs.lemmas.Bool.Decides.{nat_tests}
 use Rattle.vv_flat.specs.Lists.{put_before}
 use Rattle.vv_flat.specs.State.{Address}
 use Rattle.vv_flat.specs.Bindings.{is_address, is_below}
-use Rattle.vv_flat.specs.Volatile.{has_attention, without_attention}
+use Rattle.vv_flat.specs.Volatile.{has_attention}
 use Rattle.vv_flat.proofs.Positions.{put_at_first, length-put_before}
 use Rattle.vv_flat.proofs.KeepLists.{length-filter_le, rise-put, rise-filter}
 use Rattle.vv_flat.proofs.Shares.{and_both}
@@ -19,7 +19,7 @@ pub put_here : {A : Type 0} (test : A → Bool) (xs lent : List A) (x : A) (at :
 put_here test xs lent x at same place =
     ap (λ n. insert xs n x) (place ∙ ap (λ ys. position_or_len test ys) same) ∙ sym (put_at_first test x xs)
 
-below_through : (x y z : Address) → is_below x y ≡ true → is_below y z ≡ true → is_below x z ≡ true
+pub below_through : (x y z : Address) → is_below x y ≡ true → is_below y z ≡ true → is_below x z ≡ true
 below_through x y z p q = grind (arith, nat_tests)
 
 -- an address that is not there is below or above each that is
@@ -31,7 +31,7 @@ apart_head a b bs false is h k =
     and_both (is_below a b || is_below b a) (list_all (λ y. is_below a y || is_below y a) bs)
     (address_total a.host a.endpoint a.secondary b.host b.endpoint b.secondary is) (k h)
 
-all_apart : (a : Address) (bs : List Address) → has_attention bs a ≡ false → list_all (λ y. is_below a y || is_below y a) bs ≡ true
+pub all_apart : (a : Address) (bs : List Address) → has_attention bs a ≡ false → list_all (λ y. is_below a y || is_below y a) bs ≡ true
 all_apart a [] h = refl
 all_apart a (b ∷ bs) h = apart_head a b bs (is_address b a) refl h (all_apart a bs)
 
@@ -53,15 +53,15 @@ kept_more xs lent next room more a b kept same is unset may put larger =
       fits = omega arith;
     }
 
--- without an address
-pub kept_less : (xs next : List Address) (room more : ℕ) (a : Address) → IsKept xs room
-    → next ≡ without_attention xs a → more ≡ room → IsKept next more
-kept_less xs next room more a kept is same =
-    let fewer : length next ≤ length xs = subst (λ (ys : List Address). length ys ≤ length xs) (sym is) (length-filter_le (λ (b : Address). not (is_address b a)) xs) in
+-- without the addresses that fail a test
+pub kept_fewer : (xs next : List Address) (room more : ℕ) (stays : Address → Bool) → IsKept xs room
+    → next ≡ filter stays xs → more ≡ room → IsKept next more
+kept_fewer xs next room more stays kept is same =
+    let fewer : length next ≤ length xs = subst (λ (ys : List Address). length ys ≤ length xs) (sym is) (length-filter_le stays xs) in
     let few = kept.few in
     let fits = kept.fits in
     record {
       few = omega arith;
-      rise = subst (λ (ys : List Address). IsTrue (addresses_rise ys)) (sym is) (rise-filter is_below below_through (λ (b : Address). not (is_address b a)) xs kept.rise);
+      rise = subst (λ (ys : List Address). IsTrue (addresses_rise ys)) (sym is) (rise-filter is_below below_through stays xs kept.rise);
       fits = omega arith;
     }

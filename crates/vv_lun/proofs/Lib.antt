@@ -1,2 +1,2 @@
 mod Ranges
-mod Addresses
+pub mod Addresses

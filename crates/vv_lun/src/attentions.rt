@@ -3,7 +3,7 @@ ghost use Rattle.std.specs.Prelude.{◌≡◌, ◌≤◌, ◌<◌, [], length, I
 ghost use Rattle.std.specs.List.{position, position_or_len};
 ghost use Rattle.vv_flat.specs.Bindings.{is_address, is_below};
 ghost use Rattle.vv_flat.specs.Lists.{put_before};
-ghost use Rattle.vv_flat.specs.Volatile.{has_attention, with_attention, without_attention};
+ghost use Rattle.vv_flat.specs.Volatile.{has_attention, with_attention, without_attention, without_attentions_of};
 ghost use Rattle.vv_bind.specs.Table.{address};
 ghost use Rattle.vv_lun.specs.Attentions.{may_wait, addresses_rise};
 
@@ -105,6 +105,14 @@ fn take_out(addresses: &mut Vec<Address>, address: Address)
     addresses.retain(|b| !b.is(address));
 }
 
+/// Takes all addresses of a host out.
+fn take_out_of(addresses: &mut Vec<Address>, host: HostId)
+    ensures items { addresses.new.items ≡ without_attentions_of addresses.old.items host.0 }
+    ensures capacity { vec_capacity addresses.new ≡ vec_capacity addresses.old }
+{
+    addresses.retain(|b| b.host.0 != host.0);
+}
+
 /// The addresses at which a unit attention waits, of at most 1024.
 #[derive(Drop)]
 pub struct Attentions {
@@ -150,6 +158,13 @@ impl Attentions {
         ensures { self.new ≡ without_attention self.old (address host.0 endpoint.0 secondary.0) }
     {
         take_out(&mut self.addresses, Address::of(host, endpoint, secondary));
+    }
+
+    /// Clears the attentions at all addresses of a host.
+    pub fn clear_host(&mut self, host: HostId)
+        ensures { self.new ≡ without_attentions_of self.old host.0 }
+    {
+        take_out_of(&mut self.addresses, host);
     }
 
     /// Whether an attention waits at an address. Each address with one is there once.

@@ -1,4 +1,4 @@
-use Rattle.std.proofs.Common.{◌≡◌, ◌≤◌, ℕ, List, length, true, sym, ◌∙◌, ap, subst, arith}
+use Rattle.std.proofs.Common.{ℕ, List, length, ◌∙◌, ap, arith}
 use Rattle.std.specs.Prelude.{nat_lt}
 use Rattle.std.specs.List.{list_all}
 use Rattle.std.proofs.lemmas.List.{length-map}
@@ -6,7 +6,6 @@ use Rattle.vv_units.specs.declared.numbers.EndpointId.{EndpointId}
 use Rattle.vv_flat.specs.Lists.{all_different}
 use Rattle.vv_flat.specs.State.{Context}
 use Rattle.vv_flat.specs.Bindings.{endpoints_of}
-use Rattle.vv_bind.specs.Table.{numbers}
 use Rattle.vv_bind.proofs.TableLemmas.{endpoints_told, listed_parts}
 use Rattle.vv_bind.proofs.table.BindTable.endpoints.Goals as goal
 

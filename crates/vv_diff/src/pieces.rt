@@ -38,7 +38,8 @@ impl Pieces {
         self.held.len()
     }
 
-    pub(crate) fn into_held(self) -> Held
+    /// The list that has them.
+    pub fn into_held(self) -> Held
         ensures { result ≡ self }
     {
         let Pieces { held } = self;

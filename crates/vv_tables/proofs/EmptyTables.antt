@@ -34,6 +34,7 @@ empty_kept geometry clone_memory copy_memory clone_rows copy_rows = record {
     charges = All-cons (λ (r : ChargedContainer). r.charged ≡ charge (shape_of_tables (empty_durable {X = Entry} geometry)) r.container.number) first_row []
         (nothing_charged geometry 0) (All-nil (λ (r : ChargedContainer). r.charged ≡ charge (shape_of_tables (empty_durable {X = Entry} geometry)) r.container.number));
     reserved = nothing_reserved geometry;
+    fresh = refl;
   };
   held = record {
     rising = refl;

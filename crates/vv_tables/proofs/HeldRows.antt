@@ -87,22 +87,22 @@ module _ (s : ShelfState) (image target : HeldList) (clones : List CloneRow) (co
     (is_image : image.is_image ≡ true) (is_target : target.is_image ≡ false)
     (image_whole : image.pieces ≡ indexed (piece_chunks image.pieces)) (target_whole : target.pieces ≡ indexed (piece_chunks target.pieces))
     (held : AreHeld s clones copies) where
-  image_new : list_all (λ (k : HeldList). not (k.number == image.number)) s.held ≡ true
+  pub image_new : list_all (λ (k : HeldList). not (k.number == image.number)) s.held ≡ true
   image_new = subst (λ n. list_all (λ (k : HeldList). not (k.number == n)) s.held ≡ true) (sym next_image) (next_new s held.rising)
 
   first_rising : all_rising (numbers_held (with_held s image)) ≡ true
   first_rising = added_rising s image image_new held.rising
 
-  target_new : list_all (λ (k : HeldList). not (k.number == target.number)) (with_held s image).held ≡ true
+  pub target_new : list_all (λ (k : HeldList). not (k.number == target.number)) (with_held s image).held ≡ true
   target_new = subst (λ n. list_all (λ (k : HeldList). not (k.number == n)) (with_held s image).held ≡ true) (sym next_target) (next_new (with_held s image) first_rising)
 
   first_once : IsPermutation (numbers_held (with_held s image)) (image.number ∷ lists_of clones copies)
   first_once = added_once s image (lists_of clones copies) image_new held.each_once
 
-  second_others : All (IsSameHeld (with_held s image) (with_held (with_held s image) target)) (image.number ∷ lists_of clones copies)
+  pub second_others : All (IsSameHeld (with_held s image) (with_held (with_held s image) target)) (image.number ∷ lists_of clones copies)
   second_others = added_others (with_held s image) target (image.number ∷ lists_of clones copies) target_new first_once
 
-  others_same : All (IsSameHeld s (with_held (with_held s image) target)) (lists_of clones copies)
+  pub others_same : All (IsSameHeld s (with_held (with_held s image) target)) (lists_of clones copies)
   others_same =
       both_same s (with_held s image) (with_held (with_held s image) target) (lists_of clones copies)
       (added_others s image (lists_of clones copies) image_new held.each_once)

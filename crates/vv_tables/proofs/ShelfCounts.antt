@@ -26,7 +26,7 @@ length-from : {A B : Type 0} (f : ℕ → A → B) (i : ℕ) (xs : List A) → l
 length-from f i [] = refl
 length-from f i (x ∷ xs) = ap suc (length-from f (i + 1) xs)
 
-length-indexed : (xs : List Entry) → length (indexed xs) ≡ length xs
+pub length-indexed : (xs : List Entry) → length (indexed xs) ≡ length xs
 length-indexed xs = length-from (λ i x. record { index = i; chunk = x }) 0 xs
 
 -- ---- tests and counts
@@ -40,7 +40,7 @@ none_counted p (x ∷ xs) = go (p x) (none_counted p xs) ∙ ap (λ n. n == 0) (
     go false e = sym (ne_eqb (1 + count_by (λ y. not (p y)) xs) 0 (λ g. omega arith))
 
 -- Two lists with equal counts of every test.
-abbrev SameCounts : {A : Type 0} → List A → List A → Type 0
+abbrev pub SameCounts : {A : Type 0} → List A → List A → Type 0
 SameCounts {A} xs ys = (p : A → Bool) → count_by p xs ≡ count_by p ys
 
 same_all : {A : Type 0} (xs ys : List A) → SameCounts xs ys → (p : A → Bool) → list_all p xs ≡ list_all p ys
@@ -53,7 +53,7 @@ all_both : {A : Type 0} (p q : A → Bool) (xs : List A) → ((x : A) → p x �
 all_both p q [] e = refl
 all_both p q (x ∷ xs) e = ap (λ b. b && list_all p xs) (e x) ∙ ap (λ b. q x && b) (all_both p q xs e)
 
-same_sharing : (pool : ℕ) (xs ys : List (Piece Entry)) → SameCounts xs ys → shares_places pool xs ≡ shares_places pool ys
+pub same_sharing : (pool : ℕ) (xs ys : List (Piece Entry)) → SameCounts xs ys → shares_places pool xs ≡ shares_places pool ys
 unfolding shares_places
 same_sharing pool xs ys same =
     all_both (λ (a : Piece Entry). is_placed pool a.chunk && list_all (agrees a) xs) (λ (a : Piece Entry). is_placed pool a.chunk && list_all (agrees a) ys) xs
@@ -110,7 +110,7 @@ module _ (lsn : ℕ) (s : ShelfState) (containers : List ChargedContainer) (bind
       (sum_by-append f (flat_map (λ (v : Volume Entry). indexed v.chunks) s.volumes) (flat_map (λ (c : RunningClone Entry). indexed c.image ++ indexed c.target) (map (seen_clone s) clones))) in
       omega (arith, of_shelf, flat, lists, images, pieces, of_tables)
 
-  same_counts : SameCounts (shelf_pieces s) (all_pieces (seen_durable lsn s containers bindings tasks clones copies))
+  pub same_counts : SameCounts (shelf_pieces s) (all_pieces (seen_durable lsn s containers bindings tasks clones copies))
   same_counts p = shelf_sum (λ a. cond (p a) 1 0)
 
   pub shelf_shares : is_well_formed (seen_durable lsn s containers bindings tasks clones copies) ≡ true → shares_rightly s ≡ true
@@ -129,3 +129,11 @@ module _ (lsn : ℕ) (s : ShelfState) (containers : List ChargedContainer) (bind
       ∙ sym (used_named pool (all_pieces d) (shares-places d (well_formed_sharing d well)))
       ∙ used-pieces d in
       ap (λ n. n + length s.fresh) same
+
+  -- .. where no place is fresh
+  pub shelf_used_all : is_well_formed (seen_durable lsn s containers bindings tasks clones copies) ≡ true → s.fresh ≡ []
+      → shelf_used s ≡ used (shape_of_tables (seen_durable lsn s containers bindings tasks clones copies))
+  shelf_used_all well none =
+      let is : shelf_used s ≡ used (shape_of_tables (seen_durable lsn s containers bindings tasks clones copies)) + length s.fresh = shelf_used_is well in
+      let zero : length s.fresh ≡ 0 = ap (λ (ps : List ℕ). length ps) none in
+      omega (arith, is, zero)

@@ -68,14 +68,14 @@ module _ {A : Type 0} (key : A → ℕ) where
       let c : nat_lt n (key x) ≡ true = lt-ltb n (key x) (omega arith) in
       ap (λ b. b && all_above (key x) (map key xs)) c ∙ and_right (nat_lt m (key x)) (all_above (key x) (map key xs)) above
 
-  found_behind : (y : A) (ys : List A) (i : ℕ) (x : A) → all_above (key y) (map key ys) ≡ true → slice_get ys i ≡ Some x
+  pub found_behind : (y : A) (ys : List A) (i : ℕ) (x : A) → all_above (key y) (map key ys) ≡ true → slice_get ys i ≡ Some x
       → nat_lt (key y) (key x) ≡ true
   found_behind y [] i x above e = absurd (cc)
   found_behind y (z ∷ zs) zero x above e = let s : z ≡ x = cc in ap (λ w. nat_lt (key y) (key w)) (sym s) ∙ and_left (nat_lt (key y) (key z)) (all_above (key z) (map key zs)) above
   found_behind y (z ∷ zs) (suc i) x above e =
       found_behind y zs i x (higher (key y) (key z) zs (and_left (nat_lt (key y) (key z)) (all_above (key z) (map key zs)) above) (and_right (nat_lt (key y) (key z)) (all_above (key z) (map key zs)) above)) e
 
-  rising_behind : (y : A) (ys : List A) → all_above (key y) (map key ys) ≡ true → all_rising (map key ys) ≡ true
+  pub rising_behind : (y : A) (ys : List A) → all_above (key y) (map key ys) ≡ true → all_rising (map key ys) ≡ true
   rising_behind y [] above = refl
   rising_behind y (z ∷ zs) above = and_right (nat_lt (key y) (key z)) (all_above (key z) (map key zs)) above
 

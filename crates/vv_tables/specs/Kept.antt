@@ -1,5 +1,6 @@
 -- What tables keep: their durable part is well-formed, the numbers that are kept are those that the definitions count
--- afresh, and the shelf holds the lists of the running clones and copies and no others.
+-- afresh, no place is taken that no entry names, and the shelf holds the lists of the running clones and copies and no
+-- others.
 use Rattle.std.specs.Prelude.{ℕ, ◌≡◌, ◌≤◌, ◌==◌, Bool, true, false, List, [], ◌∷◌, ◌++◌, map, Option, Some, option_map, count_by}
 use Rattle.std.specs.List.{All, flat_map}
 use Rattle.std.specs.List.Sorted.{IsPermutation}
@@ -66,6 +67,7 @@ pub record AreWell (s : ShelfState) (containers : List ChargedContainer) (d : Du
   pub well : is_well_formed d ≡ true
   pub charges : AreCharged d containers
   pub reserved : s.reserved ≡ reserved (shape_of_tables d)
+  pub fresh : s.fresh ≡ []
 
 -- All that tables keep. There is memory for 16 running clones and as many running copies.
 pub record IsTables (geometry : Geometry) (lsn : ℕ) (view : ShelfView) (containers : List ChargedContainer) (bindings : BindState) (tasks : List Task) (clones : List CloneRow) (copies : List CopyRow) (clone_memory copy_memory : ℕ) : Type 0 where

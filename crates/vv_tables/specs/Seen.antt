@@ -1,6 +1,6 @@
 -- How the tables of an array are seen: the durable part, as the definitions of the whole array have it, with entries for
 -- chunks. Volumes stand in the shelf; the lists of running clones and copies are those that the shelf holds for them.
-use Rattle.std.specs.Prelude.{ℕ, ◌≡◌, ◌+◌, ◌-◌, List, length, map}
+use Rattle.std.specs.Prelude.{ℕ, ◌≡◌, List, [], map}
 use Rattle.vv_flat.specs.State.{Container, Task, RunningClone, RunningCopy, Durable}
 use Rattle.vv_flat.specs.Chunks.{Entry, shape_of_tables}
 use Rattle.vv_flat.specs.Space.{used, reserved, entries}
@@ -12,11 +12,10 @@ use Rattle.vv_vols.specs.Rows.{OwnPages, ShelfView}
 use Rattle.vv_tables.specs.declared.rows.CloneRow.{CloneRow}
 use Rattle.vv_tables.specs.declared.rows.CopyRow.{CopyRow}
 
--- What callers see of tables: their durable part; the places that a step has taken and no entry names yet; and of the
--- shelf which pages of volumes are their own, and for how many further lists it has the memory of a row.
+-- What callers see of tables: their durable part; and of the shelf which pages of volumes are their own, and for how many
+-- further lists it has the memory of a row.
 pub record TablesView : Type 0 where
   pub durable : Durable Entry
-  pub fresh : List ℕ
   pub pages : List OwnPages
   pub rooms : ℕ
 
@@ -60,26 +59,17 @@ seen_durable lsn s containers bindings tasks clones copies = record {
 abbrev pub seen_tables : ℕ → ShelfView → List ChargedContainer → BindState → List Task → List CloneRow → List CopyRow → TablesView
 seen_tables lsn view containers bindings tasks clones copies = record {
   durable = seen_durable lsn view.shelf containers bindings tasks clones copies;
-  fresh = view.shelf.fresh;
   pages = view.pages;
   rooms = view.rooms;
 }
 
--- how many places are used: those that entries use, and those that a step has taken
-abbrev pub used_now : TablesView → ℕ
-used_now t = used (shape_of_tables t.durable) + length t.fresh
-
--- how many places may be taken: those that are neither used nor reserved
-abbrev pub free_now : TablesView → ℕ
-free_now t = t.durable.geometry.pool_chunks - used_now t - reserved (shape_of_tables t.durable)
-
--- What the shelf of tables is: it has their volumes and places, and its counts are theirs.
+-- What the shelf of tables is: it has their volumes, no place is fresh, and its counts are theirs.
 pub record IsShelfOf (t : TablesView) (view : ShelfView) : Type 0 where
   pub geometry : view.shelf.geometry ≡ t.durable.geometry
   pub volumes : view.shelf.volumes ≡ t.durable.volumes
-  pub fresh : view.shelf.fresh ≡ t.fresh
+  pub fresh : view.shelf.fresh ≡ []
   pub reserved : view.shelf.reserved ≡ reserved (shape_of_tables t.durable)
   pub pages : view.pages ≡ t.pages
   pub rooms : view.rooms ≡ t.rooms
   pub entries : shelf_entries view.shelf ≡ entries t.durable
-  pub used : shelf_used view.shelf ≡ used_now t
+  pub used : shelf_used view.shelf ≡ used (shape_of_tables t.durable)

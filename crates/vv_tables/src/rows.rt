@@ -1,8 +1,9 @@
 //! The rows of running tasks: what a clone or a copy holds.
-ghost use Rattle.std.specs.Prelude.{◌≡◌, []};
+ghost use Rattle.std.specs.Prelude.{◌≡◌, ◌<◌, ◌≤◌, ◌++◌, ◌∷◌, [], IsSome, Some, vec_len, vec_capacity};
 ghost use Rattle.std.specs.List.{find, position};
 ghost use Rattle.std.specs.Option.{option_copied};
-ghost use Rattle.vv_tables.specs.Rows.{is_clone_row};
+ghost use Rattle.vv_flat.specs.Lists.{first_removed};
+ghost use Rattle.vv_tables.specs.Rows.{is_clone_row, is_copy_row};
 ghost use Rattle.vv_tables.specs.Kept.{lists_of, HoldsEach};
 
 use vv_units::TaskId;
@@ -23,8 +24,15 @@ pub(crate) struct CopyRow {
 }
 
 /// The place of a running clone.
-fn clone_place(rows: &[CloneRow], id: TaskId) -> Option<usize>
+pub(crate) fn clone_place(rows: &[CloneRow], id: TaskId) -> Option<usize>
     ensures { result ≡ position (is_clone_row id.0) rows.now }
+{
+    rows.iter().position(|row| row.id.0 == id.0)
+}
+
+/// The place of a running copy.
+pub(crate) fn copy_place(rows: &[CopyRow], id: TaskId) -> Option<usize>
+    ensures { result ≡ position (is_copy_row id.0) rows.now }
 {
     rows.iter().position(|row| row.id.0 == id.0)
 }
@@ -36,6 +44,56 @@ pub(crate) fn find_clone(rows: &[CloneRow], id: TaskId) -> Option<&CloneRow>
     match clone_place(rows, id) {
         Some(at) => Some(&rows[at]),
         None => None,
+    }
+}
+
+/// Adds a running clone behind all others.
+pub(crate) fn push_clone(rows: &mut Vec<CloneRow>, row: CloneRow)
+    requires { vec_len rows.old < vec_capacity rows.old }
+    ensures items { rows.new.items ≡ rows.old.items ++ row ∷ [] }
+    ensures capacity { vec_capacity rows.old ≤ vec_capacity rows.new }
+{
+    match rows.push(row) {
+        Ok(()) => {}
+        Err(_) => unreachable!(),
+    }
+}
+
+/// Adds a running copy behind all others.
+pub(crate) fn push_copy(rows: &mut Vec<CopyRow>, row: CopyRow)
+    requires { vec_len rows.old < vec_capacity rows.old }
+    ensures items { rows.new.items ≡ rows.old.items ++ row ∷ [] }
+    ensures capacity { vec_capacity rows.old ≤ vec_capacity rows.new }
+{
+    match rows.push(row) {
+        Ok(()) => {}
+        Err(_) => unreachable!(),
+    }
+}
+
+/// Takes out the running clone of a task.
+pub(crate) fn take_clone(rows: &mut Vec<CloneRow>, id: TaskId) -> CloneRow
+    requires { IsSome (find (is_clone_row id.0) rows.old.items) }
+    ensures row { find (is_clone_row id.0) rows.old.items ≡ Some result }
+    ensures items { rows.new.items ≡ first_removed (is_clone_row id.0) rows.old.items }
+    ensures capacity { vec_capacity rows.new ≡ vec_capacity rows.old }
+{
+    match clone_place(rows, id) {
+        Some(at) => rows.remove(at),
+        None => unreachable!(),
+    }
+}
+
+/// Takes out the running copy of a task.
+pub(crate) fn take_copy(rows: &mut Vec<CopyRow>, id: TaskId) -> CopyRow
+    requires { IsSome (find (is_copy_row id.0) rows.old.items) }
+    ensures row { find (is_copy_row id.0) rows.old.items ≡ Some result }
+    ensures items { rows.new.items ≡ first_removed (is_copy_row id.0) rows.old.items }
+    ensures capacity { vec_capacity rows.new ≡ vec_capacity rows.old }
+{
+    match copy_place(rows, id) {
+        Some(at) => rows.remove(at),
+        None => unreachable!(),
     }
 }
 

@@ -2,8 +2,7 @@
 ghost use Rattle.std.specs.Prelude.{◌≡◌, IsSome, length};
 ghost use Rattle.vv_flat.specs.State.{container_of};
 ghost use Rattle.vv_flat.specs.Chunks.{shape_of_tables};
-ghost use Rattle.vv_flat.specs.Space.{reserved, entries, charge, volume_count, pair_count};
-ghost use Rattle.vv_tables.specs.Seen.{used_now, free_now};
+ghost use Rattle.vv_flat.specs.Space.{used, free, reserved, entries, charge, volume_count, pair_count};
 ghost use Rattle.std.specs.Option.{option_map, option_copied};
 ghost use Rattle.vv_container.specs.Table.{numbered};
 
@@ -20,9 +19,9 @@ impl Tables {
         self.shelf.total_entries()
     }
 
-    /// How many places are used, with those that a step has taken.
+    /// How many places are used.
     pub fn used(&self) -> u32
-        ensures { result ≡ used_now self.now }
+        ensures { result ≡ used (shape_of_tables self.now.durable) }
     {
         self.shelf.used()
     }
@@ -37,7 +36,7 @@ impl Tables {
 
     /// How many places may be taken.
     pub fn free(&self) -> u32
-        ensures { result ≡ free_now self.now }
+        ensures { result ≡ free (shape_of_tables self.now.durable) }
     {
         self.shelf.free()
     }

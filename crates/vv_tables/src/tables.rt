@@ -42,7 +42,7 @@ impl Model for Tables {
 impl Tables {
     /// The tables of an array as it was formatted: container 0 stands, and all memory for rows is taken.
     pub fn new(alloc: Global, geometry: Geometry) -> Result<Tables, NoMemory>
-        ensures { IfOk result (λ tables. tables ≡ record { durable = empty_durable geometry; fresh = []; pages = []; rooms = 0 }) }
+        ensures { IfOk result (λ tables. tables ≡ record { durable = empty_durable geometry; pages = []; rooms = 0 }) }
     {
         let containers = first_containers(alloc)?;
         let tasks = TaskTable::new(alloc)?;

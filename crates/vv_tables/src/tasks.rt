@@ -46,7 +46,7 @@ impl Tables {
 }
 
 /// The entry of a held list at a position, if it has so many.
-fn held_at(shelf: &Shelf, held: &Held, at: u32) -> Option<Entry>
+pub(crate) fn held_at(shelf: &Shelf, held: &Held, at: u32) -> Option<Entry>
     requires { IsSome (held_in shelf.now.shelf held.now.number) }
     ensures { option_map seen_entry result ≡ slice_get (held_chunks shelf.now.shelf held.now.number) at }
 {

@@ -44,3 +44,15 @@ fn a_new_array_has_all_its_space(rt: HostRuntime) -> Result<(), Fail> {
     tables.close();
     Ok(())
 }
+
+#[test]
+fn an_interruption_of_a_new_array_changes_nothing(rt: HostRuntime) -> Result<(), Fail> {
+    let mut tables = Tables::new(rt.alloc(), small())?;
+    tables.interrupt();
+    assert_eq!(rt; tables.lsn(), 0);
+    assert_eq!(rt; tables.container_count(), 1);
+    assert_eq!(rt; tables.running_count(), 0);
+    assert_eq!(rt; tables.reserved(), 0);
+    tables.close();
+    Ok(())
+}

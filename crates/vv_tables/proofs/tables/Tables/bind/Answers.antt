@@ -1,0 +1,39 @@
+use Rattle.std.proofs.Common.{◌+◌, ◌≤◌, [], refl, arith, vec_capacity}
+use Rattle.vv_flat.specs.Refusals.{last_lsn}
+use Rattle.vv_flat.specs.Changes.{Bind}
+use Rattle.vv_tables.proofs.KeptShelf.{fits_seen, log_goes_on, replayed_tables, shelf_stays}
+use Rattle.vv_tables.proofs.HostChanges.{bind_host, bind_may, bound}
+use Rattle.vv_tables.proofs.tables.Tables.bind.Goals as goal
+
+pub overflow_add-self : goal.overflow_add-self
+overflow_add-self c =
+    let i = c.self.inside in
+    let h : i.lsn + 1 ≤ last_lsn =
+    log_goes_on i.geometry i.lsn i.shelf i.containers i.bindings i.tasks i.clones.items i.copies.items (vec_capacity i.clones) (vec_capacity i.copies) c.self.invariant
+    c.args.self.now c.self.view_is (Bind c.args.host.0 c.args.volume.0) [] c.requires.forms c.requires.fits in
+    omega (arith, h)
+
+pub bind-requires-clause-host : goal.bind-requires-clause-host
+bind-requires-clause-host c = bind_host c.args.host.0 c.args.volume.0 c.requires.forms
+
+pub bind-requires-clause-may : goal.bind-requires-clause-may
+bind-requires-clause-may c =
+    let i = c.self.inside in
+    bind_may i.lsn i.shelf.shelf i.containers i.bindings i.tasks i.clones.items i.copies.items c.args.host.0 c.args.volume.0 []
+    (fits_seen i.geometry i.lsn i.shelf i.containers i.bindings i.tasks i.clones.items i.copies.items (vec_capacity i.clones) (vec_capacity i.copies) c.self.invariant
+    c.args.self.now c.self.view_is (Bind c.args.host.0 c.args.volume.0) [] c.requires.forms c.requires.fits)
+
+pub invariant_of-self : goal.invariant_of-self
+invariant_of-self c =
+    let i = c.self.inside in
+    shelf_stays i.geometry i.lsn i.shelf i.containers i.bindings i.tasks i.clones.items i.copies.items (vec_capacity i.clones) (vec_capacity i.copies) c.self.invariant
+    c.args.self.now c.self.view_is (Bind c.args.host.0 c.args.volume.0) [] c.requires.forms c.requires.fits c.bind.new.self
+    (bound i.lsn i.shelf.shelf i.containers i.bindings i.tasks i.clones.items i.copies.items c.args.host.0 c.args.volume.0 c.bind.new.self c.bind.ensures.table)
+    (λ k. refl) refl
+
+pub returns-clause-durable : goal.returns-clause-durable
+returns-clause-durable c =
+    let i = c.self.inside in
+    replayed_tables i.geometry i.lsn i.shelf i.containers i.bindings i.tasks i.clones.items i.copies.items (vec_capacity i.clones) (vec_capacity i.copies) c.self.invariant
+    c.args.self.now c.self.view_is (Bind c.args.host.0 c.args.volume.0) [] c.requires.forms c.requires.fits c.bind.new.self
+    (bound i.lsn i.shelf.shelf i.containers i.bindings i.tasks i.clones.items i.copies.items c.args.host.0 c.args.volume.0 c.bind.new.self c.bind.ensures.table)

@@ -1,0 +1,19 @@
+use Rattle.std.proofs.Common.{◌≡◌, ◌+◌, ◌*◌, ◌≤◌, [], ◌∷◌, drop}
+use Rattle.std.specs.Prelude.{IsSome, IsTrue}
+use Rattle.vv_vols.specs.Shelf.{volume_in, size_in, chunks_in, allocated_of}
+use Rattle.vv_vols.specs.Rows.{KeepsOwn}
+use Rattle.vv_vols.specs.Rooms.{AreGood, for_change}
+use Rattle.vv_tables.specs.Unmapping.{range_pairs, are_inside, with_unmapped}
+use Rattle.vv_tables.proofs.unmapping.unmap_ranges.Given as goal
+
+abbrev pub invariant-loop-range : goal.invariant-loop-range
+invariant-loop-range g l = record {
+  standing : IsSome (volume_in l.shelf.shelf l.fn.volume.0);
+  size : size_in l.shelf.shelf l.fn.volume.0 ≡ size_in l.fn.shelf.shelf l.fn.volume.0;
+  inside : IsTrue (are_inside (size_in l.fn.shelf.shelf l.fn.volume.0) (range_pairs (drop l.range-index l.fn.ranges)));
+  leads : with_unmapped l.shelf.shelf l.fn.volume.0 (range_pairs (drop l.range-index l.fn.ranges)) ≡ with_unmapped l.fn.shelf.shelf l.fn.volume.0 (range_pairs l.fn.ranges);
+  room : AreGood l.shelf (for_change l.fn.volume.0 0 (size_in l.fn.shelf.shelf l.fn.volume.0) l.room ∷ []);
+  rooms : l.shelf.rooms ≡ l.fn.shelf.rooms;
+  kept : KeepsOwn l.fn.shelf l.shelf;
+  steps : l.steps + 64 * allocated_of (chunks_in l.shelf.shelf l.fn.volume.0) ≤ l.fn.steps + 64 * allocated_of (chunks_in l.fn.shelf.shelf l.fn.volume.0);
+}

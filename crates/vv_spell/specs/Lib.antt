@@ -1,0 +1,3 @@
+pub mod Window
+pub mod Runs
+pub mod Hosts

@@ -1,0 +1,4 @@
+pub mod Seen
+pub mod Hosts
+pub mod Differences
+pub mod Blocks

@@ -1,0 +1,10 @@
+mod ShapeTold
+pub mod AskedBits
+pub mod TasksAfter
+mod PieceCounts
+mod ReplyRows
+pub mod UnitSizes
+mod UnmapRanges
+pub mod LowActions
+mod QueueRows
+pub mod PlannedRows

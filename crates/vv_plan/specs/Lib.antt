@@ -1,0 +1,6 @@
+pub mod Plans
+pub mod BitRanges
+pub mod TaskRecords
+pub mod SeenArrays
+pub mod CommandAsks
+pub mod SeenQueues

@@ -1,0 +1,5 @@
+mod Placed
+mod Kept
+mod WaitingSteps
+mod EventRooms
+mod FreshTold

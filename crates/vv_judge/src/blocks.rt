@@ -94,7 +94,7 @@ fn touched_by(tables: &Tables, id: VolumeId, first_block: u64, blocks: u32) -> (
 }
 
 /// How many chunks a write inside a volume touches.
-fn touched_chunks(tables: &Tables, id: VolumeId, first_block: u64, blocks: u32) -> u32
+pub fn touched_chunks(tables: &Tables, id: VolumeId, first_block: u64, blocks: u32) -> u32
     requires some { 1 ≤ blocks }
     requires within { first_block + blocks ≤ volume_blocks tables.now.durable.geometry.chunk_blocks (stamps_of (shape_of_tables tables.now.durable) id.0) }
     ensures { result ≡ length (touched_indexes tables.now.durable.geometry.chunk_blocks first_block blocks) }

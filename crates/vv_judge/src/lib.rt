@@ -15,4 +15,5 @@ mod tests;
 mod volumes;
 
 pub use answer::{Refusal, Verdict};
+pub use blocks::touched_chunks;
 pub use events::{judge, judge_record};

@@ -326,6 +326,11 @@ asked_brings a (call.Submit c) = queued_brings a (command_of c)
 asked_brings a (call.Serve host) = served_brings a host.0
 asked_brings a _ = refl
 
+-- .. as far as it is a change
+pub call_brings : (a : Array ℕ) (c : Call) (w : Wanted) → (asked a c).deed ≡ Changes w → has_its_bytes w.change (bytes_for w.bytes) ≡ true
+unfolding brings
+call_brings a c w is = sym (ap brings is) ∙ asked_brings a c
+
 -- So the shape after a call is known from the shape before it, and from the blocks that are compared.
 
 attentions_alike : (d : Durable ChunkValue) (change : Change) (attentions : List Address)

@@ -309,7 +309,7 @@ short_decided (Bound volume blocks snapshot attention) (Err sense) payload e = s
 
 -- Replies that are refusals.
 
-refused_fits : (form : Form) (r : Refusal) → FitsReply (refused_as form r)
+pub refused_fits : (form : Form) (r : Refusal) → FitsReply (refused_as form r)
 refused_fits AsSense r = lit≤ tt
 refused_fits AsFault (flat.NotFound name) = tt
 refused_fits AsFault (flat.InvalidArgument name) = tt
@@ -605,3 +605,16 @@ unfolding reply reply_over is_well_formed_shape
 reply_fits capabilities a c e =
     deed_fits (blocks_at a.durable) (blocks_short a.durable) capabilities (shape a.durable) (asked (array_shape a) c).deed
     (asked_good capabilities (array_shape a) (kept (shape a.durable) (and_left _ _ (shaped_array a.durable e))) c)
+
+-- What is asked of a well-formed shape, deed by deed: an answer at once, and the replies to a change.
+
+pub answered_fits : (a : Array ℕ) (c : Call) → is_well_formed_shape a.durable ≡ true → (r : Reply) → (asked a c).deed ≡ Answered r → FitsReply r
+unfolding GoodDeed is_well_formed_shape
+answered_fits a c well r is =
+    subst (λ (deed : Deed). GoodDeed [] a.durable deed) is (asked_good [] a (kept a.durable (and_left _ _ well)) c)
+
+pub changes_fit : (capabilities : List Capability) (a : Array ℕ) (c : Call) → is_well_formed_shape a.durable ≡ true → (w : Wanted) → (asked a c).deed ≡ Changes w
+    → (verdict_on capabilities a.durable w.change ≡ Nothing → FitsReply w.nothing) × (verdict_on capabilities a.durable w.change ≡ Accept → FitsReply w.accepted)
+unfolding GoodDeed is_well_formed_shape
+changes_fit capabilities a c well w is =
+    subst (λ (deed : Deed). GoodDeed capabilities a.durable deed) is (asked_good capabilities a (kept a.durable (and_left _ _ well)) c)

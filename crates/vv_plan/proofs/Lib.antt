@@ -6,5 +6,6 @@ mod ReplyRows
 pub mod UnitSizes
 mod UnmapRanges
 pub mod LowActions
+mod FitActions
 mod QueueRows
 pub mod PlannedRows

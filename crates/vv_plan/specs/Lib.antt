@@ -4,3 +4,4 @@ pub mod TaskRecords
 pub mod SeenArrays
 pub mod CommandAsks
 pub mod SeenQueues
+pub mod FitDeeds

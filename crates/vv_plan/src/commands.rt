@@ -1,11 +1,13 @@
 //! What commands to logical units ask for.
-ghost use Rattle.std.specs.Prelude.{ℕ, ◌≡◌, ◌==◌, ◌≤◌, false, not, List, Err, IfOk, length};
+ghost use Rattle.std.specs.Prelude.{ℕ, ◌≡◌, ◌==◌, ◌≤◌, false, true, not, List, [], Err, IfOk, length};
 ghost use Rattle.vv_flat.specs.State.{QueuedCommand};
+ghost use Rattle.vv_flat.specs.Chunks.{shape_of_tables};
 ghost use Rattle.vv_cdb.specs.Cdbs.{IsLetThrough, decoded, data_length};
 ghost use Rattle.vv_lun.specs.Decided.{IsAsked};
 ghost use Rattle.vv_meaning.specs.Commands.{has_other_length, wrong_data, commanded, command_of};
 ghost use Rattle.vv_plan.specs.SeenArrays.{seen_volatile, seen_array};
-ghost use Rattle.vv_plan.specs.CommandAsks.{ask_at};
+ghost use Rattle.vv_plan.specs.CommandAsks.{ask_at, deed_asked};
+ghost use Rattle.vv_plan.specs.FitDeeds.{is_fit};
 
 use crate::asks::{CommandAsk, ask_for};
 use crate::bitmaps::invalid;
@@ -72,8 +74,9 @@ pub fn commanded(
     attentions: &Attentions,
     command: &ScsiCall,
 ) -> Result<CommandAsk, NoMemory>
-    ensures { IfOk result (λ ask. (queues : List (List QueuedCommand)) → commanded (seen_array tables.now queues attentions.now) (command_of command.now)
+    ensures ask { IfOk result (λ ask. (queues : List (List QueuedCommand)) → commanded (seen_array tables.now queues attentions.now) (command_of command.now)
         ≡ ask_at (command_of command.now).address command.now.payload (seen_volatile queues attentions.now) ask) }
+    ensures fits { IfOk result (λ ask. is_fit (shape_of_tables tables.now.durable) (deed_asked [] ask) ≡ true) }
 {
     let read = read_command(command.cdb.items());
     let payload = command.payload.items();

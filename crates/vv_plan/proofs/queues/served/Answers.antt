@@ -10,7 +10,7 @@ returns-in_ok-commanded-in-Some c =
     let queues = seen_queues c.args.queues.now in
     let rest = head_taken (seen_volatile queues c.args.attentions.now) c.args.host.0 in
     served_some (seen_array c.args.tables.now queues c.args.attentions.now) c.args.host.0 (command_of c.in-Some.command.now) c.in_ok-commanded-in-Some.field-0
-    (c.in-Some.ensures c.args.attentions.now) (c.in_ok-commanded-in-Some.ensures rest.queues)
+    (c.in-Some.ensures c.args.attentions.now) (c.in_ok-commanded-in-Some.ensures.ask rest.queues)
 
 pub returns-in-None : goal.returns-in-None
 returns-in-None c =

@@ -1,0 +1,10 @@
+pub mod TakenItems
+pub mod PairsInOrder
+pub mod VolumeRowLaws
+pub mod RunningRowLaws
+pub mod ListedItems
+pub mod ListedContainers
+pub mod ListedHosts
+pub mod ListedTasks
+pub mod ReadTables
+pub mod RuledTables

@@ -12,7 +12,7 @@ use Rattle.vv_flat.specs.Plans.{fresh_places}
 use Rattle.vv_flat.proofs.Shares.{and_left}
 
 -- what is found among those that pass does pass
-found_passes : (p q : ℕ → Bool) (xs : List ℕ) (x : ℕ) → find q (filter p xs) ≡ Some x → p x ≡ true
+pub found_passes : (p q : ℕ → Bool) (xs : List ℕ) (x : ℕ) → find q (filter p xs) ≡ Some x → p x ≡ true
 found_passes p q [] x e = absurd (cc)
 found_passes p q (y ∷ ys) x e = go (p y) refl (λ f. found_passes p q ys x f) e
   where

@@ -1,3 +1,12 @@
 pub mod Core
 pub mod Entries
 pub mod Rooms
+pub mod Plans
+pub mod Placed
+pub mod Turns
+pub mod Replays
+pub mod Areas
+pub mod PlanTexts
+pub mod PlannedDeeds
+pub mod FormedChanges
+pub mod TypedEvents

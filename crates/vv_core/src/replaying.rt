@@ -1,5 +1,6 @@
 //! Doing the events of records in a log that is opened.
 ghost use Rattle.std.specs.Prelude.{◌≡◌, ◌<◌, false, None, IsTrue, OnOk};
+ghost use Rattle.vv_flat.specs.State.{empty_volatile};
 ghost use Rattle.vv_flat.specs.Chunks.{shape_of_tables};
 ghost use Rattle.vv_flat.specs.Changes.{judge};
 ghost use Rattle.vv_flat.specs.Fields.{change_has_forms};
@@ -9,7 +10,6 @@ ghost use Rattle.vv_event.specs.Events.{log_record, change_of, places_of, indexe
 ghost use Rattle.vv_change.specs.Rooms.{IsRoomFor};
 
 use crate::array_core::Core;
-use crate::attending::attend;
 use std::alloc::Global;
 use std::marker::Brand;
 use std::sync::ledger::{Blank, Ledger};
@@ -19,14 +19,16 @@ use vv_tables::Tables;
 use vv_units::{NoMemory, Steps};
 
 impl Core {
-    /// Does the event of a record without a mark, which fits, with its memory taken at once.
+    /// Does the event of a record without a mark, which fits, with its memory taken at once. Nothing waits, ahead of it and
+    /// afterwards: the array of a log that is opened has no queues and no attentions.
     pub(crate) fn do_event(&mut self, alloc: Global, event: &Event) -> Result<(), NoMemory>
         requires fits { IsTrue (record_fits self.old.array.durable (log_record (record { first_after_open = false; event = event.now }))) }
         requires forms { IsTrue (change_has_forms (change_of event.now)) }
-        ensures { OnOk result (self.new.array.durable ≡ replayed self.old.array.durable (change_of event.now) (places_of event.now)) }
+        requires waiting { self.old.array.volatile ≡ empty_volatile }
+        ensures durable { OnOk result (self.new.array.durable ≡ replayed self.old.array.durable (change_of event.now) (places_of event.now)) }
+        ensures waiting { self.new.array.volatile ≡ empty_volatile }
     {
         let room = vv_change::prepare(alloc, &mut self.tables, event)?;
-        attend(&mut self.waiting, &self.tables, event);
         apply_uncounted::<Brand>(&mut self.tables, event, room, Blank::new(1));
         Ok(())
     }

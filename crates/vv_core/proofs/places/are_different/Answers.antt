@@ -1,5 +1,4 @@
-use Rattle.std.proofs.Common.{map, ap, ◌∙◌}
-use Rattle.vv_units.specs.declared.numbers.Place.{Place as place}
+use Rattle.std.proofs.Common.{ap, ◌∙◌}
 use Rattle.vv_flat.specs.Lists.{all_different}
 use Rattle.vv_rules.proofs.Single.{different_permuted}
 use Rattle.vv_core.proofs.places.are_different.Goals as goal

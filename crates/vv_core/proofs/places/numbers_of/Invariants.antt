@@ -1,4 +1,4 @@
-use Rattle.std.proofs.Common.{◌≡◌, ℕ, map, take}
+use Rattle.std.proofs.Common.{◌≡◌, map, take}
 use Rattle.vv_units.specs.declared.numbers.Place.{Place as place}
 use Rattle.vv_core.proofs.places.numbers_of.Given as goal
 

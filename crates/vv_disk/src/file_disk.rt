@@ -1,11 +1,15 @@
 //! A disk over a file of the machine. It tells no content, and counts its faults.
-ghost use Rattle.std.specs.Prelude.{◌≡◌, ◌≤◌, ◌+◌, ◌↔◌, List, ℕ, Option, None, IsTrue, IsErr, IfOk, OnOk, OnErr, length};
+//!
+//! Two programs that write to one file would each spoil what the other relies on, so a disk holds the machine's lock on its
+//! file from its making on. The lock is of the whole file, and goes when the file closes, so with the disk or with its program.
+//! It is advisory: it keeps out other disks over the file, in this program or another, and no program that doesn't ask for it.
+ghost use Rattle.std.specs.Prelude.{◌≡◌, ◌≤◌, ◌+◌, ◌↔◌, List, ℕ, Option, None, IsTrue, IsOk, IsErr, IfOk, OnOk, OnErr, length};
 ghost use Rattle.vv_units.specs.Causes.{HasCause};
 ghost use Rattle.vv_disk.specs.Images.{Elapses, Follows, DiffersWithin, OnlyTold};
 ghost use Rattle.vv_disk.specs.FileDisk.{none_told, new_file, broken_file, after_reading, after_writing};
 
 use crate::Disk;
-use std::fs::{File, OpenOptions};
+use std::fs::{File, OpenOptions, TryLockError};
 use std::io;
 use std::marker::Model;
 use std::os::unix::fs::FileExt;
@@ -44,6 +48,8 @@ impl Model for FileDisk {
 impl FileDisk {
     /// A disk over a file of this length, which is made anew: what an old file held is gone.
     /// Its length and its name are on the disk for sure.
+    /// The disk holds the lock on the file. It takes it before it changes an old file, so where another disk over the file
+    /// stands, the answer is `Failed` and the file is as it was.
     pub fn create<R: Files<File = File>>(
         rt: &R,
         path: &str,
@@ -62,7 +68,8 @@ impl FileDisk {
         }
     }
 
-    /// A disk over the file that is there.
+    /// A disk over the file that is there, at the length that it has now.
+    /// The disk holds the lock on the file. Where another disk over the file stands, the answer is `Failed`.
     pub fn open<R: Files<File = File>>(rt: &R, path: &str) -> Result<FileDisk, MakeFault>
         ensures { IfOk result (λ disk. disk ≡ new_file disk.size) }
     {
@@ -114,18 +121,36 @@ impl FileDisk {
     }
 }
 
-/// A file of this length, of which the machine has said that it and its name are on the disk.
+/// A file of this length, of which the machine has said that it and its name are on the disk. Its lock is taken.
 fn make<R: Files<File = File>>(rt: &R, path: &str, len: u64) -> io::Result<File> {
     let file = OpenOptions::new()
         .read(true)
         .write(true)
         .create(true)
-        .truncate(true)
         .open(rt, path)?;
+    let file = locked(file)?;
+    // Only now, since an old file may be another disk's. Grown from no byte, it holds zeros.
+    file.set_len(0)?;
     file.set_len(len)?;
     file.sync_all()?;
     sync_folder(rt, path)?;
     Ok(file)
+}
+
+/// The file, with its lock taken. Where the lock is another's, that fails at once, and closes the file.
+fn locked(file: File) -> io::Result<File> {
+    let taken = file.try_lock();
+    held(file, taken)
+}
+
+/// The file, where its lock was taken.
+fn held(file: File, taken: Result<(), TryLockError>) -> io::Result<File>
+    ensures { IsOk result ↔ IsOk taken }
+{
+    match taken {
+        Ok(()) => Ok(file),
+        Err(error) => Err(error.into()),
+    }
 }
 
 /// Puts the names in the folder of this path on the disk.
@@ -138,8 +163,10 @@ fn sync_folder<R: Files<File = File>>(rt: &R, path: &str) -> io::Result<()> {
     File::open(rt, folder)?.sync_all()
 }
 
+/// The file that is there, with its lock taken, and its length.
 fn open_measured<R: Files<File = File>>(rt: &R, path: &str) -> io::Result<(File, u64)> {
     let file = OpenOptions::new().read(true).write(true).open(rt, path)?;
+    let file = locked(file)?;
     let len = file.metadata()?.len();
     Ok((file, len))
 }

@@ -7,6 +7,8 @@ const BYTES: [u8; 8] = [1, 2, 3, 4, 5, 6, 7, 8];
 
 const FILE: &str = "vv_disk_test.img";
 
+const LOCKED: &str = "vv_disk_locked.img";
+
 fn wrote<D: Disk>(disk: &mut D, at: u64, bytes: &[u8]) -> bool {
     let len = bytes.len() as u64;
     len <= disk.len() && at <= disk.len() - len && disk.write(at, bytes).is_ok()
@@ -104,6 +106,35 @@ fn a_file_is_a_disk(rt: HostRuntime) -> Result<(), Fail> {
     fs::remove_file(&rt, FILE)?;
     assert!(rt; matches!(FileDisk::open(&rt, FILE), Err(MakeFault::Failed)));
 
+    Ok(())
+}
+
+/// Whether no other disk can be had over this file.
+fn is_refused(rt: &HostRuntime, path: &str) -> bool {
+    matches!(FileDisk::open(rt, path), Err(MakeFault::Failed))
+        && matches!(FileDisk::create(rt, path, 9), Err(MakeFault::Failed))
+}
+
+#[test]
+fn a_file_has_one_disk(rt: HostRuntime) -> Result<(), Fail> {
+    let mut into = [0u8; 4];
+    let mut disk = FileDisk::create(&rt, LOCKED, 4)?;
+    assert!(rt; wrote(&mut disk, 0, &[1, 2, 3, 4]));
+    assert!(rt; is_refused(&rt, LOCKED), "beside a created one");
+    drop(disk);
+
+    let mut disk = FileDisk::open(&rt, LOCKED)?;
+    assert!(rt; is_refused(&rt, LOCKED), "beside an opened one");
+    assert_eq!(rt; disk.len(), 4);
+    assert!(rt; has_read(&mut disk, 0, &mut into));
+    assert_eq!(rt; into.as_slice(), [1, 2, 3, 4].as_slice());
+    drop(disk);
+
+    let mut disk = FileDisk::create(&rt, LOCKED, 4)?;
+    assert!(rt; has_read(&mut disk, 0, &mut into));
+    assert_eq!(rt; into.as_slice(), [0; 4].as_slice());
+    drop(disk);
+    fs::remove_file(&rt, LOCKED)?;
     Ok(())
 }
 

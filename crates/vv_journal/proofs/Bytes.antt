@@ -1,7 +1,7 @@
 -- Bytes that are written, and the numbers that they are.
 use Rattle.std.proofs.Common.{◌≡◌, ◌⊎◌, inl, ℕ, zero, suc, ◌+◌, ◌^◌, ◌<◌, ◌≤◌, List, [], ◌∷◌, length, get_or, replicate, take, drop, Option, None, Some, IfSome, option_map, refl, sym, ap, ◌∙◌, subst, arith}
 use Rattle.std.specs.Int.{bytes_high_first}
-use Rattle.std.proofs.lemmas.List.{take-take, drop-take, drop-drop}
+use Rattle.std.proofs.lemmas.List.{length-take, take-take, drop-take, drop-drop}
 use Rattle.vv_fields.specs.Fields.{be_bytes, be_number}
 use Rattle.vv_fields.proofs.ByteLemmas.{number_again}
 use Rattle.vv_disk.specs.Images.{bytes_at, overwritten}
@@ -57,30 +57,55 @@ part_written disk at i m bytes fits part =
 pub apart_written : (disk : List ℕ) (at i m : ℕ) (bytes : List ℕ) → (i + m ≤ at) ⊎ (at + length bytes ≤ i) → bytes_at i m (overwritten disk at bytes) ≡ bytes_at i m disk
 apart_written disk at i m bytes apart = bytes_apart at (length bytes) i m disk (overwritten disk at bytes) apart (overwritten_within disk at bytes)
 
--- a slot whose head and payload were written
-pub slot_written : (disk head payload : List ℕ) (at : ℕ) → at + 4096 ≤ length disk → length head ≡ 8 → length payload ≤ payload_limit → be_number (take 4 head) ≡ length payload → be_number (take 4 (drop 4 head)) ≡ 0
-    → payload_at at (overwritten (overwritten disk at head) (at + 8) payload) ≡ Some payload
-slot_written disk head payload at fits eight le len zeros =
-    let headed = overwritten disk at head in
-    let now = overwritten headed (at + 8) payload in
-    let size : length headed ≡ length disk = length-overwritten disk at head in
-    let low : number_at 4 at now ≡ length payload =
-    ap be_number (apart_written headed (at + 8) at 4 payload (inl (omega arith))
-    ∙ ap (λ (k : ℕ). bytes_at k 4 headed) (let e : at ≡ at + 0 = omega arith in e)
-    ∙ part_written disk at 0 4 head (omega (arith, eight, fits)) (omega (arith, eight))) ∙ len in
-    let high : number_at 4 (at + 4) now ≡ 0 =
-    ap be_number (apart_written headed (at + 8) (at + 4) 4 payload (inl (omega arith))
-    ∙ part_written disk at 4 4 head (omega (arith, eight, fits)) (omega (arith, eight))) ∙ zeros in
-    payload_from at (length payload) now payload low le high (bytes_at-overwritten headed (at + 8) payload (omega (arith, fits, le, size)))
+-- a slot whose head and payload were put over zeros
+module _ (zeros head payload : List ℕ) (size : length zeros ≡ 4096) (eight : length head ≡ 8) (le : length payload ≤ payload_limit) where
+  headed : length (overwritten zeros 0 head) ≡ 4096
+  headed = length-overwritten zeros 0 head ∙ size
 
--- the same of contents that may be told
-pub slot_told : (told0 told1 told2 told3 : Option (List ℕ)) (size : ℕ) (head payload : List ℕ) (at : ℕ) → ((c : List ℕ) → told0 ≡ Some c → length c ≡ size)
-    → told1 ≡ option_map (λ c. overwritten c at head) told0 → told2 ≡ option_map (λ c. overwritten c (at + 8) payload) told1 → told3 ≡ told2
-    → at + 4096 ≤ size → length head ≡ 8 → length payload ≤ payload_limit → be_number (take 4 head) ≡ length payload → be_number (take 4 (drop 4 head)) ≡ 0
-    → IfSome told3 (λ c. payload_at at c ≡ Some payload)
-slot_told told0 told1 told2 told3 size head payload at sized first second third fits eight le len zeros =
-    subst (λ t. IfSome t (λ c. payload_at at c ≡ Some payload)) (sym (third ∙ second ∙ ap (option_map (λ c. overwritten c (at + 8) payload)) first)) (by told0 sized)
-  where
-    by : (t : Option (List ℕ)) → ((c : List ℕ) → t ≡ Some c → length c ≡ size) → IfSome (option_map (λ c. overwritten c (at + 8) payload) (option_map (λ c. overwritten c at head) t)) (λ c. payload_at at c ≡ Some payload)
-    by None sized = tt
-    by (Some c) sized = slot_written c head payload at (omega (arith, fits, sized c refl)) eight le len zeros
+  pub slot_low : (n : ℕ) → be_number (take 4 head) ≡ n → number_at 4 0 (overwritten (overwritten zeros 0 head) 8 payload) ≡ n
+  slot_low n is =
+      ap be_number (apart_written (overwritten zeros 0 head) 8 0 4 payload (inl (omega arith))
+      ∙ part_written zeros 0 0 4 head (omega (arith, size, eight)) (omega (arith, eight))) ∙ is
+
+  pub slot_high : be_number (take 4 (drop 4 head)) ≡ 0 → number_at 4 4 (overwritten (overwritten zeros 0 head) 8 payload) ≡ 0
+  slot_high is =
+      ap be_number (apart_written (overwritten zeros 0 head) 8 4 4 payload (inl (omega arith))
+      ∙ part_written zeros 0 4 4 head (omega (arith, size, eight)) (omega (arith, eight))) ∙ is
+
+  pub slot_payload : bytes_at 8 (length payload) (overwritten (overwritten zeros 0 head) 8 payload) ≡ payload
+  slot_payload = bytes_at-overwritten (overwritten zeros 0 head) 8 payload (omega (arith, headed, le))
+
+-- a part of a front
+part_of_front : (i m k : ℕ) (bytes : List ℕ) → i + m ≤ k → bytes_at i m (take k bytes) ≡ bytes_at i m bytes
+part_of_front i m k bytes le =
+    sym (drop-take i m (take k bytes)) ∙ ap (λ (l : List ℕ). drop i l) (take-take (i + m) k bytes le) ∙ drop-take i m bytes
+
+-- a slot's front, up to the end of its payload, that was written
+module _ (slot payload : List ℕ) (size : length slot ≡ 4096) (le : length payload ≤ payload_limit)
+    (low : number_at 4 0 slot ≡ length payload) (high : number_at 4 4 slot ≡ 0) (has : bytes_at 8 (length payload) slot ≡ payload) where
+  pub front_size : length (take (8 + length payload) slot) ≡ 8 + length payload
+  front_size = simp (length-take) (omega (arith, size, le))
+
+  pub slot_written : (disk : List ℕ) (at : ℕ) → at + 4096 ≤ length disk → payload_at at (overwritten disk at (take (8 + length payload) slot)) ≡ Some payload
+  slot_written disk at fits =
+      let front = take (8 + length payload) slot in
+      let now = overwritten disk at front in
+      let room : at + length front ≤ length disk = omega (arith, fits, front_size, le) in
+      let is_low : number_at 4 at now ≡ length payload =
+      ap be_number (ap (λ (k : ℕ). bytes_at k 4 now) (let e : at ≡ at + 0 = omega arith in e)
+      ∙ part_written disk at 0 4 front room (omega (arith, front_size))
+      ∙ part_of_front 0 4 (8 + length payload) slot (omega arith)) ∙ low in
+      let is_high : number_at 4 (at + 4) now ≡ 0 =
+      ap be_number (part_written disk at 4 4 front room (omega (arith, front_size))
+      ∙ part_of_front 4 4 (8 + length payload) slot (omega arith)) ∙ high in
+      let is_payload : bytes_at (at + 8) (length payload) now ≡ payload =
+      part_written disk at 8 (length payload) front room (omega (arith, front_size))
+      ∙ part_of_front 8 (length payload) (8 + length payload) slot (omega arith) ∙ has in
+      payload_from at (length payload) now payload is_low le is_high is_payload
+
+  -- the same of contents that may be told
+  pub slot_told : (told later : Option (List ℕ)) (disk at : ℕ) → ((c : List ℕ) → told ≡ Some c → length c ≡ disk)
+      → later ≡ option_map (λ c. overwritten c at (take (8 + length payload) slot)) told → at + 4096 ≤ disk → IfSome later (λ c. payload_at at c ≡ Some payload)
+  slot_told None later disk at sized is fits = subst (λ t. IfSome t (λ c. payload_at at c ≡ Some payload)) (sym is) tt
+  slot_told (Some c) later disk at sized is fits =
+      subst (λ t. IfSome t (λ c. payload_at at c ≡ Some payload)) (sym is) (slot_written c at (omega (arith, fits, sized c refl)))

@@ -1,6 +1,6 @@
 -- What a crash may leave while an image is formatted: before the format's byte is cleared, while the rest is written
 -- behind a cleared byte, and while the byte is set again.
-use Rattle.std.proofs.Common.{◌≡◌, ◌≢◌, ◌⊎◌, inl, inr, ⊎_elim, ℕ, ◌+◌, ◌-◌, ◌<◌, Bool, true, false, eqb, List, [], ◌∷◌, length, get_or, Option, Some, refl, sym, ap, ◌∙◌, subst, arith}
+use Rattle.std.proofs.Common.{◌≡◌, ◌≢◌, ◌⊎◌, inl, inr, ⊎_elim, ℕ, ◌-◌, ◌<◌, Bool, true, false, eqb, List, [], ◌∷◌, length, get_or, Option, Some, refl, sym, ap, ◌∙◌, subst, arith}
 use Rattle.std.proofs.lemmas.Bool.{eq-eqb, eqb-true}
 use Rattle.vv_units.specs.declared.geometry.Geometry.{Geometry}
 use Rattle.vv_disk.specs.Images.{overwritten, DiffersWithin, EachImage, OnlyTold}

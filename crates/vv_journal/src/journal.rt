@@ -56,7 +56,7 @@ impl Journal {
     }
 
     /// The sizes of its image.
-    pub(crate) fn geometry(&self) -> Geometry
+    pub fn geometry(&self) -> Geometry
         ensures { result ≡ self.now.geometry }
     {
         self.geometry

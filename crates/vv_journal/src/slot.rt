@@ -2,18 +2,18 @@
 ghost use Rattle.std.specs.Prelude.{◌≡◌, ◌≤◌, ◌+◌, ◌^◌, ◌↔◌, List, ℕ, Some, length, take, drop, OnOk, IfErr, IfSome};
 ghost use Rattle.vv_units.specs.Causes.{HasCause};
 ghost use Rattle.vv_fields.specs.Fields.{be_number};
-ghost use Rattle.vv_disk.specs.Images.{ToldWithin, OnlyTold, LeavesOnly, EachImage};
+ghost use Rattle.vv_disk.specs.Images.{bytes_at, overwritten, ToldWithin, OnlyTold, LeavesOnly, EachImage};
+ghost use Rattle.vv_journal.specs.Header.{number_at};
 ghost use Rattle.vv_journal.specs.Half.{payload_at, payload_limit};
 ghost use Rattle.vv_journal.specs.Calls.{ChangedWithin};
 
-use crate::steps::{put, settle};
+use crate::steps::put_settled;
 use vv_disk::Disk;
 use vv_units::DiskFault;
 
-/// Writes a slot with this payload at `at`, and syncs.
+/// Writes a slot with this payload at `at`, in one write, and syncs.
 pub(crate) fn write_slot<D: Disk>(disk: &mut D, at: u64, payload: &[u8]) -> Result<(), DiskFault>
     requires disk { at + 4096 ≤ D.size disk.old }
-    requires small { at + 4096 ≤ 2 ^ 63 }
     requires payload { length payload.now ≤ payload_limit }
 
     ensures stands { OnOk result (IfSome (D.content disk.new) (λ c. payload_at at c ≡ Some payload.now)) }
@@ -28,10 +28,31 @@ pub(crate) fn write_slot<D: Disk>(disk: &mut D, at: u64, payload: &[u8]) -> Resu
     ensures cause { HasCause (D.write_faults disk.old) (D.write_faults disk.new) result }
     ensures read_faults { D.read_faults disk.new ≡ D.read_faults disk.old }
 {
-    put(disk, at, &slot_head(payload.len() as u32))?;
-    put(disk, at + 8, payload)?;
-    settle(disk)?;
-    Ok(())
+    let slot = slot_with(payload);
+    let (bytes, _) = slot.split_at(8 + payload.len());
+    put_settled(disk, at, bytes)
+}
+
+/// A slot with this payload: its head, the payload, and zeros behind it.
+fn slot_with(payload: &[u8]) -> [u8; 4096]
+    requires { length payload.now ≤ payload_limit }
+    ensures size { length result ≡ 4096 }
+    ensures len { number_at 4 0 result ≡ length payload.now }
+    ensures zeros { number_at 4 4 result ≡ 0 }
+    ensures payload { bytes_at 8 (length payload.now) result ≡ payload.now }
+{
+    let mut slot = [0; 4096];
+    put_part(&mut slot, 0, &slot_head(payload.len() as u32));
+    put_part(&mut slot, 8, payload);
+    slot
+}
+
+/// Puts these bytes over what stands from `at` on.
+fn put_part(bytes: &mut [u8], at: usize, part: &[u8])
+    requires { at + length part.now ≤ length bytes.old }
+    ensures { bytes.new ≡ overwritten bytes.old at part.now }
+{
+    bytes[at..at + part.len()].copy_from_slice(part);
 }
 
 /// The first 8 bytes of a slot: the length of its payload, and zeros.

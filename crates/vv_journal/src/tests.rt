@@ -148,7 +148,7 @@ fn two_records_stand_in_their_slots(rt: HostRuntime) -> Result<(), Fail> {
 
 /// One record, and a second one whose last sync fails; then a crash.
 fn torn(alloc: Global, keep: Keep) -> Result<MemDisk, Fail> {
-    let mut disk = zeros(alloc, Some(19))?;
+    let mut disk = zeros(alloc, Some(17))?;
     let _ = has_two(&mut disk);
     Ok(disk.after_crash(keep))
 }

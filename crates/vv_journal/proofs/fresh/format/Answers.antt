@@ -1,5 +1,5 @@
-use Rattle.std.proofs.Common.{◌≡◌, ℕ, ◌-◌, ◌<◌, List, [], ◌∷◌, length, Some, IfSome, option_map, ◌∙◌, ap, subst, arith}
-use Rattle.vv_disk.specs.Images.{EachImage, LeavesOnly, overwritten}
+use Rattle.std.proofs.Common.{◌≡◌, ◌-◌, ◌<◌, [], ◌∷◌, length, IfSome, option_map, ◌∙◌, ap, subst, arith}
+use Rattle.vv_disk.specs.Images.{EachImage, overwritten}
 use Rattle.vv_disk.proofs.Moments.{leaves_weaker, leaves_joined}
 use Rattle.vv_data.specs.Layout.{half_at}
 use Rattle.vv_journal.specs.Log.{Holds, fresh_log}

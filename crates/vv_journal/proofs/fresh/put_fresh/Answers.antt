@@ -1,11 +1,9 @@
-use Rattle.std.proofs.Common.{◌≡◌, ℕ, ◌+◌, ◌-◌, ◌*◌, ◌≤◌, List, [], ◌∷◌, length, IfSome, arith, Some, ◌∙◌}
-use Rattle.vv_disk.specs.Images.{EachImage, LeavesOnly, ToldWithin, overwritten}
-use Rattle.vv_data.specs.Layout.{half_at, half_bytes, area_bytes}
-use Rattle.vv_journal.specs.Log.{Holds, fresh_log}
-use Rattle.vv_journal.specs.Half.{gates_at}
+use Rattle.std.proofs.Common.{◌+◌, ◌-◌, length, arith, ◌∙◌}
+use Rattle.vv_disk.specs.Images.{EachImage}
+use Rattle.vv_data.specs.Layout.{half_at}
 use Rattle.vv_journal.specs.Calls.{ChangedWithin, LiesIn}
-use Rattle.vv_journal.proofs.Crash.{told_wider, told_twice, leaves_within, then_within}
-use Rattle.vv_journal.proofs.Made.{made_holds, made_told, told_some}
+use Rattle.vv_journal.proofs.Crash.{told_wider, told_twice, then_within}
+use Rattle.vv_journal.proofs.Made.{made_holds, told_some}
 use Rattle.vv_journal.proofs.fresh.put_fresh.Goals as goal
 
 pub returns-in_err-put_both-clause-any_moment : goal.returns-in_err-put_both-clause-any_moment

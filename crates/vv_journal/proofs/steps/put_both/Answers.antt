@@ -1,5 +1,5 @@
-use Rattle.std.proofs.Common.{ℕ, List, length}
-use Rattle.vv_disk.specs.Images.{EachImage, LeavesOnly}
+use Rattle.std.proofs.Common.{length}
+use Rattle.vv_disk.specs.Images.{EachImage}
 use Rattle.vv_journal.specs.Calls.{ChangedWithin}
 use Rattle.vv_journal.proofs.Crash.{changed_wider, told_wider, told_twice, leaves_within, then_within}
 use Rattle.vv_journal.proofs.steps.put_both.Goals as goal

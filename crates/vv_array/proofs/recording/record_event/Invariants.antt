@@ -1,0 +1,4 @@
+use Rattle.vv_array.proofs.recording.record_event.Given as goal
+
+abbrev pub ghosts-apply_uncounted : goal.ghosts-apply_uncounted
+ghosts-apply_uncounted g a = record { name = a.blank.name; parts = a.blank.parts }

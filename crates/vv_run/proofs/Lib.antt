@@ -1,4 +1,12 @@
 pub mod WordLemmas
 pub mod StreamLemmas
 pub mod ReadingLemmas
+pub mod BoundLemmas
 pub mod ServingLemmas
+pub mod LineLemmas
+pub mod BeginningLemmas
+pub mod TopLemmas
+pub mod LoadingLemmas
+pub mod LoadedLemmas
+pub mod TallyLemmas
+pub mod EndLemmas

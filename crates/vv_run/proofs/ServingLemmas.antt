@@ -1,206 +1,297 @@
 -- A run goes on by one line, and ends within one: for the loop that serves a script.
-use Rattle.std.proofs.Common.{◌≡◌, ℕ, ◌<◌, ◌≤◌, ◌++◌, List, [], ◌∷◌, length, refl, sym, ap, ◌∙◌, append_assoc, append-nil, subst, Some, None, Result, Ok, Err, inl, inr, arith, take, drop, ◌+◌}
-use Rattle.std.specs.Prelude.{Option, OnOk, OnErr, IfSome, ◌⊎◌}
+use Rattle.std.proofs.Common.{◌≡◌, inl, inr, ⊎_elim, ℕ, ◌<◌, ◌≤◌, ◌+◌, ◌++◌, List, [], ◌∷◌, length, take, drop, refl, sym, ap, ◌∙◌, append_assoc, append-nil, subst, Some, None, Result, Ok, Err}
+use Rattle.std.specs.Prelude.{Option, OnOk, OnErr, IfSome}
 use Rattle.std.specs.Io.KnownBytes.{Appends}
+use Rattle.vv_disk.specs.Images.{EachImage, LeavesOnly}
+use Rattle.vv_disk.proofs.Moments.{started, leaves_weaker, leaves_joined}
+use Rattle.vv_flat.specs.Profiles.{Capability}
 use Rattle.vv_calls.specs.Lines.{line_limit}
 use Rattle.vv_calls.specs.declared.call.LineFault.TheVariants.{LineTooLong}
 use Rattle.vv_io.specs.Reading.{ReaderState, new_reader, script_limit}
+use Rattle.vv_reply.specs.declared.reply.Reply.TheVariants as a_reply
+use Rattle.vv_meaning.specs.Steps.{State, Report, report_text, reports_text}
+use Rattle.vv_reply.specs.declared.reply.Reply.{Reply}
+use Rattle.vv_array.specs.Faults.{HasItsCause}
+use Rattle.vv_array.specs.Moments.{StandsForOne, StandsBetween}
+use Rattle.vv_run.specs.Bounds.{AreBounded}
+use Rattle.vv_run.proofs.BoundLemmas.{bounded_none, bounded_more}
 use Rattle.vv_run.specs.Lines.{lines_of, ended_lines_of, lines_answered}
 use Rattle.vv_run.specs.Reading.{Gave, GaveAll, WentPast, GaveNone}
-use Rattle.vv_reply.specs.Replies.{text_of}
-use Rattle.vv_run.specs.State.{State, empty_array}
-use Rattle.vv_run.specs.Steps.{Step, no_memory}
-use Rattle.vv_run.specs.Runs.{Run, texts_of, Answered, CutShort, AnsweredFront, LineAnswered, LineCut}
-use Rattle.vv_run.specs.Writing.{AppendsOrForgets, StopsWithin}
-use Rattle.vv_reply.specs.declared.reply.Reply.{Reply}
-use Rattle.vv_reply.specs.declared.reply.Reply.TheVariants as a_reply
-use Rattle.vv_run.specs.declared.status.Status.{Status}
-use Rattle.vv_run.specs.declared.status.Status.TheVariants.{Done, BadWords, SourceFault, SinkFault, NoMemory, TooMuch}
-use Rattle.vv_run.proofs.StreamLemmas.{appends_nothing, appends_more}
+use Rattle.vv_run.specs.Runs.{Answered, CutShort, AnsweredFront, LineAnswered, LineCut}
+use Rattle.vv_run.specs.Steps.{LineStep, Run, last_state, StandsForAny, StandsInRun}
+use Rattle.vv_run.specs.Writing.{StopsWithin}
+use Rattle.vv_run.proofs.StreamLemmas.{appends_nothing, appends_more, stops_after}
 use Rattle.vv_run.proofs.ReadingLemmas.{gave_nothing, gave_more, told_all, told_past, front_given, lead_of}
 
-run_more : (old mid new : State) (lines : List (Option (List ℕ))) (replies : List Reply) (line : Option (List ℕ)) (reply : Reply)
-    → Run old lines replies mid → Step mid line reply new → Run old (lines ++ line ∷ []) (replies ++ reply ∷ []) new
-run_more old mid new [] [] line reply same step = (new, let S : State → Type 0 = λ s. Step s line reply new in subst S same step, refl)
-run_more old mid new [] (first ∷ replies) line reply run step = absurd run
-run_more old mid new (first ∷ lines) [] line reply run step = absurd run
-run_more old mid new (first ∷ lines) (answer ∷ replies) line reply run step = (run.0, run.1, run_more run.0 mid new lines replies line reply run.2 step)
+-- ---- a run with one line more
 
-texts_more : (replies : List Reply) (reply : Reply) → texts_of (replies ++ reply ∷ []) ≡ texts_of replies ++ text_of reply
-texts_more [] reply = append-nil (text_of reply)
-texts_more (first ∷ replies) reply =
-    ap (λ (rest : List ℕ). text_of first ++ rest) (texts_more replies reply) ∙ sym (append_assoc (text_of first) (texts_of replies) (text_of reply))
+run_more : (capabilities : List Capability) (old : State) (lines : List (Option (List ℕ))) (reports : List Report) (states : List State) (line : Option (List ℕ)) (r : Report) (new : State)
+    → Run capabilities old lines reports states → LineStep capabilities (last_state old states) line r.recovered r.answer new
+    → Run capabilities old (lines ++ line ∷ []) (reports ++ r ∷ []) (states ++ new ∷ [])
+run_more capabilities old [] [] [] line r new run step = (step, tt)
+run_more capabilities old [] [] (s ∷ states) line r new run step = absurd run
+run_more capabilities old [] (q ∷ reports) states line r new run step = absurd run
+run_more capabilities old (l ∷ lines) [] states line r new run step = absurd run
+run_more capabilities old (l ∷ lines) (q ∷ reports) [] line r new run step = absurd run
+run_more capabilities old (l ∷ lines) (q ∷ reports) (s ∷ states) line r new run step =
+    (run.0, run_more capabilities s lines reports states line r new run.1 step)
 
--- The lines so far were answered, and left this array.
-pub record Serving (lines : List (Option (List ℕ))) (before now : Option (List ℕ)) (array : State) : Type 0 where
-  pub replies : List Reply
-  pub run : Run empty_array lines replies array
-  pub written : Appends before now (texts_of replies)
+last_more : (old : State) (states : List State) (new : State) → last_state old (states ++ new ∷ []) ≡ new
+last_more old [] new = refl
+last_more old (s ∷ states) new = last_more s states new
 
-pub serving_none : (before : Option (List ℕ)) → Serving [] before before empty_array
-serving_none before = record { replies = []; run = refl; written = appends_nothing before }
+texts_more : (reports : List Report) (r : Report) → reports_text (reports ++ r ∷ []) ≡ reports_text reports ++ report_text r
+texts_more [] r = append-nil (report_text r)
+texts_more (first ∷ reports) r =
+    ap (λ (rest : List ℕ). report_text first ++ rest) (texts_more reports r) ∙ sym (append_assoc (report_text first) (reports_text reports) (report_text r))
 
-pub serving_more : (lines : List (Option (List ℕ))) (before now after : Option (List ℕ)) (array new : State) (line : Option (List ℕ))
-    → Serving lines before now array → LineAnswered array line now after new → Serving (lines ++ line ∷ []) before after new
-serving_more lines before now after array new line so_far more = record {
-  replies = so_far.replies ++ more.reply ∷ [];
-  run = run_more empty_array array new lines so_far.replies line more.reply so_far.run more.step;
-  written =
-      let P : List ℕ → Type 0 = λ bytes. Appends before after bytes in
-      subst P (sym (texts_more so_far.replies more.reply)) (appends_more before now after (texts_of so_far.replies) (text_of more.reply) so_far.written more.written);
-}
+-- ---- images of the states of a run
 
-pub serving_done : (lines : List (Option (List ℕ))) (before now : Option (List ℕ)) (array : State) → Serving lines before now array → Answered lines before now
-serving_done lines before now array so_far = record { replies = so_far.replies; last = array; run = so_far.run; written = so_far.written }
+any_front : (states : List State) (new : State) (image : List ℕ) → StandsForAny states image → StandsForAny (states ++ new ∷ []) image
+any_front [] new image stands = absurd stands
+any_front (s ∷ states) new image (inl here) = inl here
+any_front (s ∷ states) new image (inr there) = inr (any_front states new image there)
 
-stops_after : (a b c : Option (List ℕ)) (xs ys : List ℕ) → Appends a b xs → AppendsOrForgets b c ys → AppendsOrForgets a c (xs ++ ys)
-stops_after None b c xs ys first second = tt
-stops_after (Some us) None c xs ys first second = absurd first
-stops_after (Some us) (Some vs) None xs ys first second = tt
-stops_after (Some us) (Some vs) (Some ws) xs ys first second =
-    second ∙ ap (λ (front : List ℕ). front ++ ys) first ∙ append_assoc us xs ys
+any_new : (states : List State) (new : State) (image : List ℕ) → StandsForOne new image → StandsForAny (states ++ new ∷ []) image
+any_new [] new image stands = inl stands
+any_new (s ∷ states) new image stands = inr (any_new states new image stands)
 
-pub serving_cut : (lines unserved all : List (Option (List ℕ))) (before now after : Option (List ℕ)) (array new : State) (line : Option (List ℕ))
-    → Serving lines before now array → LineCut array line now after new → lines ++ (line ∷ unserved) ≡ all → CutShort all before after
-serving_cut lines unserved all before now after array new line so_far cut is = record {
-  served = lines;
-  line = line;
-  unserved = unserved;
-  all = is;
-  replies = so_far.replies;
-  last = array;
-  run = so_far.run;
-  reply = cut.reply;
-  next = new;
-  step = cut.step;
-  part = cut.stops.part;
-  lost = cut.stops.more;
-  whole = cut.stops.whole;
-  proper = cut.stops.proper;
-  written = stops_after before now after (texts_of so_far.replies) cut.stops.part so_far.written cut.stops.taken;
-}
+any_last : (old : State) (states : List State) (image : List ℕ) → StandsForOne (last_state old states) image → StandsInRun old states image
+any_last old [] image stands = inl stands
+any_last old (s ∷ states) image stands = inr (any_last s states image stands)
 
--- a line that there was no memory for
-pub no_memory_answered : {E : Type 0} (result : Result (Unit {0}) E) (old new : State) (line : Option (List ℕ)) (text : List ℕ) (before after : Option (List ℕ))
-    → text ≡ text_of no_memory → new ≡ old → OnOk result (Appends before after text) → OnOk result (LineAnswered old line before after new)
-no_memory_answered (Ok u) old new line text before after is same written =
-    let P : List ℕ → Type 0 = λ bytes. Appends before after bytes in
-    record { reply = no_memory; step = inl (refl, same); written = subst P is written }
-no_memory_answered (Err e) old new line text before after is same written = tt
+in_longer : (old : State) (states : List State) (new : State) → EachImage (StandsInRun old (states ++ new ∷ [])) (StandsInRun old states)
+in_longer old states new image stands = any_front (old ∷ states) new image stands
 
-pub no_memory_cut : {E : Type 0} (result : Result (Unit {0}) E) (old new : State) (line : Option (List ℕ)) (text : List ℕ) (before after : Option (List ℕ))
-    → text ≡ text_of no_memory → new ≡ old → OnErr result (StopsWithin before after text) → OnErr result (LineCut old line before after new)
-no_memory_cut (Ok u) old new line text before after is same stops = tt
-no_memory_cut (Err e) old new line text before after is same stops =
-    let P : List ℕ → Type 0 = λ bytes. StopsWithin before after bytes in
-    record { reply = no_memory; step = inl (refl, same); stops = subst P is stops }
-
--- a line that is too long, whatever the array
-pub refused_answered : {E : Type 0} (result : Result (Unit {0}) E) (text : List ℕ) (before after : Option (List ℕ))
-    → text ≡ text_of (a_reply.Line LineTooLong) → OnOk result (Appends before after text)
-    → OnOk result ((array : State) → LineAnswered array None before after array)
-refused_answered (Ok u) text before after is written =
-    let P : List ℕ → Type 0 = λ bytes. Appends before after bytes in
-    λ array. record { reply = a_reply.Line LineTooLong; step = inr refl; written = subst P is written }
-refused_answered (Err e) text before after is written = tt
-
-pub refused_cut : {E : Type 0} (result : Result (Unit {0}) E) (text : List ℕ) (before after : Option (List ℕ))
-    → text ≡ text_of (a_reply.Line LineTooLong) → OnErr result (StopsWithin before after text)
-    → OnErr result ((array : State) → LineCut array None before after array)
-refused_cut (Ok u) text before after is stops = tt
-refused_cut (Err e) text before after is stops =
-    let P : List ℕ → Type 0 = λ bytes. StopsWithin before after bytes in
-    λ array. record { reply = a_reply.Line LineTooLong; step = inr refl; stops = subst P is stops }
-
--- The lines given so far were served, and left this array.
-pub record Progress (reader : ReaderState) (left now before after : Option (List ℕ)) (array : State) : Type 0 where
-  pub lines : List (Option (List ℕ))
-  pub reading : Gave (new_reader line_limit) reader lines left now
-  pub serving : Serving lines before after array
-
-pub progress_none : (reader : ReaderState) (left before : Option (List ℕ)) → reader ≡ new_reader line_limit → Progress reader left left before before empty_array
-progress_none reader left before is = record {
-  lines = [];
-  reading = let P : ReaderState → Type 0 = λ s. Gave (new_reader line_limit) s [] left left in subst P (sym is) (gave_nothing left);
-  serving = serving_none before;
-}
-
-pub progress_line : (old new : ReaderState) (line : Option (List ℕ)) (left between now before mid after : Option (List ℕ)) (array next : State)
-    → Progress old left between before mid array → Gave old new (line ∷ []) between now → LineAnswered array line mid after next
-    → Progress new left now before after next
-progress_line old new line left between now before mid after array next so_far gave answered = record {
-  lines = so_far.lines ++ line ∷ [];
-  reading = gave_more (new_reader line_limit) old new so_far.lines (line ∷ []) left between now so_far.reading gave;
-  serving = serving_more so_far.lines before mid after array next line so_far.serving answered;
-}
-
--- the same array and lines, said of other lines that are equal to them
-answered_as : (lines others : List (Option (List ℕ))) (before after : Option (List ℕ)) (array : State) → Serving lines before after array → lines ≡ others
-    → Answered others before after
-answered_as lines others before after array serving same =
-    let P : List (Option (List ℕ)) → Type 0 = λ ls. Answered ls before after in
-    subst P same (serving_done lines before after array serving)
+between_in_run : (old : State) (states : List State) (new : State)
+    → EachImage (StandsInRun old (states ++ new ∷ [])) (StandsBetween (last_state old states) new)
+between_in_run old states new image stands =
+    ⊎_elim (λ was. in_longer old states new image (any_last old states image was)) (λ is. any_new (old ∷ states) new image is) stands
 
 if_some : (left : Option (List ℕ)) (P Q : List ℕ → Type 0) → IfSome left P → ((told : List ℕ) → left ≡ Some told → P told → Q told) → IfSome left Q
 if_some None P Q holds goes = tt
 if_some (Some told) P Q holds goes = goes told refl holds
 
-all_read : (old new : ReaderState) (left between now before after : Option (List ℕ)) (array : State) → (so_far : Progress old left between before after array)
-    → (end : GaveAll old new between now) → IfSome left (λ told. (so_far.lines ++ [] ≡ lines_of told) × (length told ≤ script_limit))
-all_read old new left between now before after array so_far end =
-    told_all new (so_far.lines ++ []) left now (gave_more (new_reader line_limit) old new so_far.lines [] left between now so_far.reading end.gave) end.ended end.none_left
+-- ---- the lines so far, over disks
 
-pub served_all : (old new : ReaderState) (left between now before after : Option (List ℕ)) (array : State) → Progress old left between before after array
-    → GaveAll old new between now → IfSome left (λ told. Answered (lines_of told) before after)
-served_all old new left between now before after array so_far end =
-    if_some left _ _ (all_read old new left between now before after array so_far end)
-    (λ told is all. answered_as so_far.lines (lines_of told) before after array so_far.serving (sym (append-nil so_far.lines) ∙ all.0))
+module _ {D : Type 0} (moment : D → ℕ) (left_since : D → ℕ → List ℕ → Type 0) (reads writes : D → ℕ) where
+  -- what was told of the faults of a disk since an earlier one
 
-pub served_within : (old new : ReaderState) (left between now before after : Option (List ℕ)) (array : State) → Progress old left between before after array
-    → GaveAll old new between now → IfSome left (λ told. length told ≤ script_limit)
-served_within old new left between now before after array so_far end =
-    if_some left _ _ (all_read old new left between now before after array so_far end) (λ told is all. all.1)
+  abbrev pub Bounds : D → D → List Report → Type 0
+  Bounds first disk = AreBounded (reads first) (reads disk) (writes first) (writes disk)
 
-pub served_past : (old new : ReaderState) (left between now before after : Option (List ℕ)) (array : State) → Progress old left between before after array
-    → WentPast old new between now → IfSome left (λ told. Answered (ended_lines_of (take script_limit told)) before after)
-served_past old new left between now before after array so_far more =
-    if_some left _ _ (told_past old new so_far.lines left between now so_far.reading more)
-    (λ told is past. answered_as so_far.lines (ended_lines_of (take script_limit told)) before after array so_far.serving past.0)
+  abbrev pub Causes : D → D → Reply → Type 0
+  Causes disk next = HasItsCause (reads disk) (reads next) (writes disk) (writes next)
 
-pub went_past : (old new : ReaderState) (left between now before after : Option (List ℕ)) (array : State) → Progress old left between before after array
-    → WentPast old new between now → IfSome left (λ told. (script_limit < length told) × (now ≡ Some (drop (script_limit + 1) told)))
-went_past old new left between now before after array so_far more =
-    if_some left _ _ (told_past old new so_far.lines left between now so_far.reading more) (λ told is past. (past.1, past.2))
+  -- nothing but the images of the states so far is left, and then nothing but those of one step more
+  leaves_more : (first disk next : D) (old : State) (states : List State) (new : State)
+      → LeavesOnly moment left_since first disk (StandsInRun old states) → LeavesOnly moment left_since disk next (StandsBetween (last_state old states) new)
+      → LeavesOnly moment left_since first next (StandsInRun old (states ++ new ∷ []))
+  leaves_more first disk next old states new so_far more =
+      leaves_joined moment left_since first disk next (StandsInRun old (states ++ new ∷ []))
+      (leaves_weaker moment left_since first disk (StandsInRun old states) (StandsInRun old (states ++ new ∷ [])) (in_longer old states new) so_far)
+      (leaves_weaker moment left_since disk next (StandsBetween (last_state old states) new) (StandsInRun old (states ++ new ∷ [])) (between_in_run old states new) more)
 
-pub served_front : (old new : ReaderState) (left between now before after : Option (List ℕ)) (array : State) → Progress old left between before after array
-    → GaveNone old new between now → IfSome left (λ told. AnsweredFront told now before after)
-served_front old new None between now before after array so_far more = tt
-served_front old new (Some told) between now before after array so_far more =
-    let front = front_given old new so_far.lines (Some told) between now so_far.reading more in
-    record {
-      front = front.front;
-      within = front.within;
-      consumed = front.consumed;
-      answered = answered_as so_far.lines (ended_lines_of front.front) before after array so_far.serving front.lines;
+  answered_none : (capabilities : List Capability) (start : State) (before : Option (List ℕ)) (stands : State → Type 0) (disk : D)
+      → stands start → EachImage (StandsForOne start) (left_since disk (moment disk))
+      → Answered capabilities start [] before before stands (LeavesOnly moment left_since disk disk) (Bounds disk disk) []
+  answered_none capabilities start before stands disk now each = record {
+    reports = [];
+    states = [];
+    run = tt;
+    written = appends_nothing before;
+    stands_for = now;
+    leaves_only = started moment left_since disk (StandsInRun start []) (λ image left. inl (each image left));
+    bounded = bounded_none (reads disk) (writes disk);
+  }
+
+  answered_more : (capabilities : List Capability) (start : State) (before mid after : Option (List ℕ)) (stands stands_next : State → Type 0) (first disk next : D)
+      (lines : List (Option (List ℕ))) (line : Option (List ℕ))
+      → (so_far : Answered capabilities start [] before mid stands (LeavesOnly moment left_since first disk) (Bounds first disk) lines)
+      → LineAnswered capabilities (last_state start so_far.states) line mid after stands_next (LeavesOnly moment left_since disk next) (Causes disk next)
+      → reads disk ≤ reads next → writes disk ≤ writes next
+      → Answered capabilities start [] before after stands_next (LeavesOnly moment left_since first next) (Bounds first next) (lines ++ line ∷ [])
+  answered_more capabilities start before mid after stands stands_next first disk next lines line so_far more reads_later writes_later = record {
+    reports = so_far.reports ++ more.report ∷ [];
+    states = so_far.states ++ more.new ∷ [];
+    run = run_more capabilities start lines so_far.reports so_far.states line more.report more.new so_far.run more.step;
+    written =
+        let P : List ℕ → Type 0 = λ bytes. Appends before after bytes in
+        subst P (sym (texts_more so_far.reports more.report)) (appends_more before mid after (reports_text so_far.reports) (report_text more.report) so_far.written more.written);
+    stands_for = subst stands_next (sym (last_more start so_far.states more.new)) more.stands_for;
+    leaves_only = leaves_more first disk next start so_far.states more.new so_far.leaves_only more.leaves_only;
+    bounded = bounded_more (reads first) (reads disk) (reads next) (writes first) (writes disk) (writes next) so_far.reports more.report so_far.bounded more.cause reads_later writes_later;
+  }
+
+  answered_cut : (capabilities : List Capability) (start : State) (before mid after : Option (List ℕ)) (stands stands_next : State → Type 0) (first disk next : D)
+      (lines : List (Option (List ℕ))) (line : Option (List ℕ)) (unserved all : List (Option (List ℕ)))
+      → (so_far : Answered capabilities start [] before mid stands (LeavesOnly moment left_since first disk) (Bounds first disk) lines)
+      → LineCut capabilities (last_state start so_far.states) line mid after stands_next (LeavesOnly moment left_since disk next) (Causes disk next)
+      → reads disk ≤ reads next → writes disk ≤ writes next → (lines ++ line ∷ []) ++ unserved ≡ all
+      → CutShort capabilities start [] before after stands_next (LeavesOnly moment left_since first next) (Bounds first next) all
+  answered_cut capabilities start before mid after stands stands_next first disk next lines line unserved all so_far cut reads_later writes_later is = record {
+    served = lines ++ line ∷ [];
+    unserved = unserved;
+    all = is;
+    reports = so_far.reports;
+    last = cut.report;
+    states = so_far.states ++ cut.new ∷ [];
+    run = run_more capabilities start lines so_far.reports so_far.states line cut.report cut.new so_far.run cut.step;
+    part = cut.stops.part;
+    lost = cut.stops.more;
+    whole = cut.stops.whole;
+    proper = cut.stops.proper;
+    written = stops_after before mid after (reports_text so_far.reports) cut.stops.part so_far.written cut.stops.taken;
+    stands_for = subst stands_next (sym (last_more start so_far.states cut.new)) cut.stands_for;
+    leaves_only = leaves_more first disk next start so_far.states cut.new so_far.leaves_only cut.leaves_only;
+    bounded = bounded_more (reads first) (reads disk) (reads next) (writes first) (writes disk) (writes next) so_far.reports cut.report so_far.bounded cut.cause reads_later writes_later;
+  }
+
+  -- ---- one line
+
+  -- a line that was served, by what serving it says
+  module _ (capabilities : List Capability) (old : State) (line : Option (List ℕ)) (r : Report) (before after : Option (List ℕ)) (stands : State → Type 0) (disk next : D)
+      (served : (new : State) × stands new × LineStep capabilities old line r.recovered r.answer new × LeavesOnly moment left_since disk next (StandsBetween old new)) (cause : Causes disk next r.answer) where
+    pub line_answered : Appends before after (report_text r) → LineAnswered capabilities old line before after stands (LeavesOnly moment left_since disk next) (Causes disk next)
+    line_answered written = record {
+      report = r;
+      new = served.0;
+      step = served.2;
+      written = written;
+      stands_for = served.1;
+      leaves_only = served.3;
+      cause = cause;
     }
 
-pub served_cut : (old new : ReaderState) (line : Option (List ℕ)) (left between now before mid after : Option (List ℕ)) (array next : State)
-    → Progress old left between before mid array → Gave old new (line ∷ []) between now → LineCut array line mid after next
-    → IfSome left (λ told. CutShort (lines_answered told) before after)
-served_cut old new line left between now before mid after array next so_far gave cut =
-    if_some left _ _ (lead_of new (so_far.lines ++ line ∷ []) left now (gave_more (new_reader line_limit) old new so_far.lines (line ∷ []) left between now so_far.reading gave))
-    (λ told is lead. serving_cut so_far.lines lead.0 (lines_answered told) before mid after array next line so_far.serving cut
-    (sym (append_assoc so_far.lines (line ∷ []) lead.0) ∙ sym lead.1))
+    pub line_cut : StopsWithin before after (report_text r) → LineCut capabilities old line before after stands (LeavesOnly moment left_since disk next) (Causes disk next)
+    line_cut stops = record {
+      report = r;
+      new = served.0;
+      step = served.2;
+      stops = stops;
+      stands_for = served.1;
+      leaves_only = served.3;
+      cause = cause;
+    }
 
--- A status that tells no fault, and that no byte past the most of a script was taken, is Done or NoMemory.
-pub is_done : (status : Status) (left : Option (List ℕ)) (P : List ℕ → Type 0) (A B : Type 0)
-    → (status ≡ BadWords → ⊥) → (status ≡ SourceFault → A) → (status ≡ SinkFault → B)
-    → (status ≡ TooMuch → IfSome left (λ told. (script_limit < length told) × P told))
-    → IfSome left (λ told. length told ≤ script_limit → (A → ⊥) → (B → ⊥) → (status ≡ Done) ⊎ (status ≡ NoMemory))
-is_done status None P A B words source sink past = tt
-is_done Done (Some told) P A B words source sink past = λ within no_source no_sink. inl refl
-is_done BadWords (Some told) P A B words source sink past = λ within no_source no_sink. absurd (words refl)
-is_done NoMemory (Some told) P A B words source sink past = λ within no_source no_sink. inr refl
-is_done SourceFault (Some told) P A B words source sink past = λ within no_source no_sink. absurd (no_source (source refl))
-is_done SinkFault (Some told) P A B words source sink past = λ within no_source no_sink. absurd (no_sink (sink refl))
-is_done TooMuch (Some told) P A B words source sink past = λ within no_source no_sink. let over = (past refl).0 in absurd (omega arith)
+  -- the same of a line from each state for which the array stood, by how its report was written
+
+  pub answered_so : {E : Type 0} (result : Result (Unit {0}) E) (capabilities : List Capability) (line : Option (List ℕ)) (r : Report) (before after : Option (List ℕ))
+      (honest : Type 0) (stood stands : State → Type 0) (disk next : D)
+      → (honest → (old : State) → stood old
+      → (new : State) × stands new × LineStep capabilities old line r.recovered r.answer new × LeavesOnly moment left_since disk next (StandsBetween old new))
+      → Causes disk next r.answer → OnOk result (Appends before after (report_text r))
+      → OnOk result (honest → (old : State) → stood old → LineAnswered capabilities old line before after stands (LeavesOnly moment left_since disk next) (Causes disk next))
+  answered_so (Ok u) capabilities line r before after honest stood stands disk next served cause written =
+      λ is old was. line_answered capabilities old line r before after stands disk next (served is old was) cause written
+  answered_so (Err e) capabilities line r before after honest stood stands disk next served cause written = tt
+
+  pub cut_so : {E : Type 0} (result : Result (Unit {0}) E) (capabilities : List Capability) (line : Option (List ℕ)) (r : Report) (before after : Option (List ℕ))
+      (honest : Type 0) (stood stands : State → Type 0) (disk next : D)
+      → (honest → (old : State) → stood old
+      → (new : State) × stands new × LineStep capabilities old line r.recovered r.answer new × LeavesOnly moment left_since disk next (StandsBetween old new))
+      → Causes disk next r.answer → OnErr result (StopsWithin before after (report_text r))
+      → OnErr result (honest → (old : State) → stood old → LineCut capabilities old line before after stands (LeavesOnly moment left_since disk next) (Causes disk next))
+  cut_so (Ok u) capabilities line r before after honest stood stands disk next served cause stops = tt
+  cut_so (Err e) capabilities line r before after honest stood stands disk next served cause stops =
+      λ is old was. line_cut capabilities old line r before after stands disk next (served is old was) cause stops
+
+  -- a line that is too long, of which each image stands for the state as before
+  pub too_long : (capabilities : List Capability) (old : State) (stands : State → Type 0) (disk : D)
+      → stands old → EachImage (StandsForOne old) (left_since disk (moment disk))
+      → (new : State) × stands new × LineStep capabilities old None None (a_reply.Line LineTooLong) new × LeavesOnly moment left_since disk disk (StandsBetween old new)
+  too_long capabilities old stands disk now each =
+      (old, now, (refl, refl, refl), started moment left_since disk (StandsBetween old old) (λ image left. inl (each image left)))
+
+  -- ---- what was read and served
+
+  -- The lines given so far were served, from each state with which the script may have begun.
+  pub record Progress (capabilities : List Capability) (reader : ReaderState) (left now before after : Option (List ℕ)) (entry stands : State → Type 0) (first disk : D) : Type 0 where
+    pub lines : List (Option (List ℕ))
+    pub reading : Gave (new_reader line_limit) reader lines left now
+    pub serving : (start : State) → entry start → Answered capabilities start [] before after stands (LeavesOnly moment left_since first disk) (Bounds first disk) lines
+
+  pub progress_none : (capabilities : List Capability) (reader : ReaderState) (left before : Option (List ℕ)) (entry stands : State → Type 0) (disk : D)
+      → reader ≡ new_reader line_limit → ((start : State) → entry start → stands start × EachImage (StandsForOne start) (left_since disk (moment disk)))
+      → Progress capabilities reader left left before before entry stands disk disk
+  progress_none capabilities reader left before entry stands disk is begins = record {
+    lines = [];
+    reading = let P : ReaderState → Type 0 = λ s. Gave (new_reader line_limit) s [] left left in subst P (sym is) (gave_nothing left);
+    serving = λ start at_entry. answered_none capabilities start before stands disk (begins start at_entry).0 (begins start at_entry).1;
+  }
+
+  pub progress_line : (capabilities : List Capability) (old new : ReaderState) (line : Option (List ℕ)) (left between now before mid after : Option (List ℕ))
+      (entry stands stands_next : State → Type 0) (first disk next : D)
+      → Progress capabilities old left between before mid entry stands first disk → Gave old new (line ∷ []) between now
+      → ((start : State) → entry start → (state : State) → stands state → LineAnswered capabilities state line mid after stands_next (LeavesOnly moment left_since disk next) (Causes disk next))
+      → reads disk ≤ reads next → writes disk ≤ writes next
+      → Progress capabilities new left now before after entry stands_next first next
+  progress_line capabilities old new line left between now before mid after entry stands stands_next first disk next so_far gave answered reads_later writes_later = record {
+    lines = so_far.lines ++ line ∷ [];
+    reading = gave_more (new_reader line_limit) old new so_far.lines (line ∷ []) left between now so_far.reading gave;
+    serving = λ start at_entry.
+        let till : Answered capabilities start [] before mid stands (LeavesOnly moment left_since first disk) (Bounds first disk) so_far.lines = so_far.serving start at_entry in
+        answered_more capabilities start before mid after stands stands_next first disk next so_far.lines line till
+        (answered start at_entry (last_state start till.states) till.stands_for) reads_later writes_later;
+  }
+
+  -- ---- how a script ends
+
+  module _ (capabilities : List Capability) (old new : ReaderState) (left between now before after : Option (List ℕ)) (entry stands : State → Type 0) (first disk : D)
+      (so_far : Progress capabilities old left between before after entry stands first disk) where
+    -- the same lines, said of others that are equal to them
+    answered_as : (others : List (Option (List ℕ))) → so_far.lines ≡ others → (start : State) → entry start
+        → Answered capabilities start [] before after stands (LeavesOnly moment left_since first disk) (Bounds first disk) others
+    answered_as others same start at_entry =
+        let P : List (Option (List ℕ)) → Type 0 = λ ls. Answered capabilities start [] before after stands (LeavesOnly moment left_since first disk) (Bounds first disk) ls in
+        subst P same (so_far.serving start at_entry)
+
+    all_read : GaveAll old new between now → IfSome left (λ told. (so_far.lines ++ [] ≡ lines_of told) × (length told ≤ script_limit))
+    all_read end =
+        told_all new (so_far.lines ++ []) left now (gave_more (new_reader line_limit) old new so_far.lines [] left between now so_far.reading end.gave) end.ended end.none_left
+
+    pub served_all : GaveAll old new between now → (start : State) → entry start
+        → IfSome left (λ told. Answered capabilities start [] before after stands (LeavesOnly moment left_since first disk) (Bounds first disk) (lines_of told))
+    served_all end start at_entry =
+        if_some left _ _ (all_read end) (λ told is all. answered_as (lines_of told) (sym (append-nil so_far.lines) ∙ all.0) start at_entry)
+
+    pub served_within : GaveAll old new between now → IfSome left (λ told. length told ≤ script_limit)
+    served_within end = if_some left _ _ (all_read end) (λ told is all. all.1)
+
+    pub served_past : WentPast old new between now → (start : State) → entry start
+        → IfSome left (λ told. Answered capabilities start [] before after stands (LeavesOnly moment left_since first disk) (Bounds first disk) (ended_lines_of (take script_limit told)))
+    served_past more start at_entry =
+        if_some left _ _ (told_past old new so_far.lines left between now so_far.reading more)
+        (λ told is past. answered_as (ended_lines_of (take script_limit told)) past.0 start at_entry)
+
+    pub went_past : WentPast old new between now → IfSome left (λ told. (script_limit < length told) × (now ≡ Some (drop (script_limit + 1) told)))
+    went_past more =
+        if_some left _ _ (told_past old new so_far.lines left between now so_far.reading more) (λ told is past. (past.1, past.2))
+
+    pub served_front : GaveNone old new between now → (start : State) → entry start
+        → IfSome left (λ told. AnsweredFront capabilities start [] before after stands (LeavesOnly moment left_since first disk) (Bounds first disk) told now)
+    served_front more start at_entry = by left so_far.reading refl
+      where
+        by : (script : Option (List ℕ)) → Gave (new_reader line_limit) old so_far.lines script between → script ≡ left
+            → IfSome script (λ told. AnsweredFront capabilities start [] before after stands (LeavesOnly moment left_since first disk) (Bounds first disk) told now)
+        by None reading is = tt
+        by (Some told) reading is =
+            let front = front_given old new so_far.lines (Some told) between now reading more in
+            record {
+              front = front.front;
+              within = front.within;
+              consumed = front.consumed;
+              answered = answered_as (ended_lines_of front.front) front.lines start at_entry;
+            }
+
+  pub served_cut : (capabilities : List Capability) (old new : ReaderState) (line : Option (List ℕ)) (left between now before mid after : Option (List ℕ))
+      (entry stands stands_next : State → Type 0) (first disk next : D)
+      → Progress capabilities old left between before mid entry stands first disk → Gave old new (line ∷ []) between now
+      → ((start : State) → entry start → (state : State) → stands state → LineCut capabilities state line mid after stands_next (LeavesOnly moment left_since disk next) (Causes disk next))
+      → reads disk ≤ reads next → writes disk ≤ writes next → (start : State) → entry start
+      → IfSome left (λ told. CutShort capabilities start [] before after stands_next (LeavesOnly moment left_since first next) (Bounds first next) (lines_answered told))
+  served_cut capabilities old new line left between now before mid after entry stands stands_next first disk next so_far gave cut reads_later writes_later start at_entry =
+      let till : Answered capabilities start [] before mid stands (LeavesOnly moment left_since first disk) (Bounds first disk) so_far.lines = so_far.serving start at_entry in
+      if_some left _ _ (lead_of new (so_far.lines ++ line ∷ []) left now (gave_more (new_reader line_limit) old new so_far.lines (line ∷ []) left between now so_far.reading gave))
+      (λ told is lead. answered_cut capabilities start before mid after stands stands_next first disk next so_far.lines line lead.0 (lines_answered told) till
+      (cut start at_entry (last_state start till.states) till.stands_for) reads_later writes_later (sym lead.1))

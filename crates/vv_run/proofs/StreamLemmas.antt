@@ -1,6 +1,6 @@
 -- What a sink took, piece by piece: for the loop that writes a reply.
-use Rattle.std.proofs.Common.{◌≡◌, ℕ, ◌<◌, ◌++◌, List, [], length, take, drop, refl, sym, ap, ◌∙◌, append_assoc, append-nil, Some, None, subst}
-use Rattle.std.specs.Prelude.{Option}
+use Rattle.std.proofs.Common.{◌≡◌, ℕ, ◌<◌, ◌++◌, List, [], length, take, drop, refl, sym, ap, ◌∙◌, append_assoc, append-nil, length-append, Some, None, subst, arith}
+use Rattle.std.specs.Prelude.{Option, Result, Ok, Err, OnErr}
 use Rattle.std.specs.Io.KnownBytes.{Appends}
 use Rattle.std.proofs.lemmas.List.{take-append-drop}
 use Rattle.vv_io.specs.Streams.{KeepsOrForgets}
@@ -22,6 +22,33 @@ appends_then_stops None b c xs first second = tt
 appends_then_stops (Some us) None c xs first second = absurd first
 appends_then_stops (Some us) (Some vs) None xs first second = tt
 appends_then_stops (Some us) (Some vs) (Some ws) xs first second = second ∙ first
+
+pub stops_after : (a b c : Option (List ℕ)) (xs ys : List ℕ) → Appends a b xs → AppendsOrForgets b c ys → AppendsOrForgets a c (xs ++ ys)
+stops_after None b c xs ys first second = tt
+stops_after (Some us) None c xs ys first second = absurd first
+stops_after (Some us) (Some vs) None xs ys first second = tt
+stops_after (Some us) (Some vs) (Some ws) xs ys first second =
+    second ∙ ap (λ (front : List ℕ). front ++ ys) first ∙ append_assoc us xs ys
+
+-- the first of two texts was cut, or the second one behind the whole of the first
+
+pub cut_first : (old new : Option (List ℕ)) (first second : List ℕ) → StopsWithin old new first → StopsWithin old new (first ++ second)
+cut_first old new first second cut = record {
+  part = cut.part;
+  more = cut.more ++ second;
+  whole = sym (append_assoc cut.part cut.more second) ∙ ap (λ (front : List ℕ). front ++ second) cut.whole;
+  proper = omega (arith, cut.proper, length-append cut.more second);
+  taken = cut.taken;
+}
+
+pub cut_second : (old mid new : Option (List ℕ)) (first second : List ℕ) → Appends old mid first → StopsWithin mid new second → StopsWithin old new (first ++ second)
+cut_second old mid new first second whole cut = record {
+  part = first ++ cut.part;
+  more = cut.more;
+  whole = append_assoc first cut.part cut.more ∙ ap (λ (back : List ℕ). first ++ back) cut.whole;
+  proper = cut.proper;
+  taken = stops_after old mid new first cut.part whole cut.taken;
+}
 
 -- what was written of some bytes so far, and what is left of them
 pub record Wrote (old now : Option (List ℕ)) (bytes rest : List ℕ) : Type 0 where
@@ -55,3 +82,9 @@ stops old now new bytes rest before some keeps = record {
   proper = some;
   taken = appends_then_stops old now new before.part before.taken keeps;
 }
+
+-- .. by how the second was written
+pub report_cut_later : {E : Type 0} (result : Result (Unit {0}) E) (old mid new : Option (List ℕ)) (first second : List ℕ) → Appends old mid first
+    → OnErr result (StopsWithin mid new second) → OnErr result (StopsWithin old new (first ++ second))
+report_cut_later (Ok u) old mid new first second whole cut = tt
+report_cut_later (Err e) old mid new first second whole cut = cut_second old mid new first second whole cut

@@ -3,7 +3,10 @@ pub mod Reading
 pub mod Words
 pub mod Writing
 pub mod Status
-pub mod Transfers
-pub mod State
+pub mod Replies
 pub mod Steps
+pub mod Bounds
 pub mod Runs
+pub mod Starts
+pub mod Loading
+pub mod Tallies

@@ -12,8 +12,8 @@ use Rattle.vv_calls.specs.declared.call.Call.{Call}
 use Rattle.vv_reply.specs.declared.reply.Reply.{Reply}
 use Rattle.vv_record.specs.declared.record.Event.{Event}
 use Rattle.vv_event.specs.Events.{change_of}
-use Rattle.vv_meaning.specs.Asks.{Changes}
-use Rattle.vv_meaning.specs.Meaning.{blocks_at, differs, verdict_on, reply, next}
+use Rattle.vv_meaning.specs.Asks.{NewBytes, Changes}
+use Rattle.vv_meaning.specs.Meaning.{blocks_at, bytes_for, differs, verdict_on, reply, next}
 use Rattle.vv_meaning.specs.Steps.{is_journaled, moves_blocks, form_for, is_write, is_copying}
 use Rattle.vv_core.specs.Core.{entry_shape}
 use Rattle.vv_core.specs.declared.planned.Fill.{Fill}
@@ -60,7 +60,7 @@ module _ (capabilities : List Capability) (a : Array Entry) (content : List ℕ)
     plan_next =
         change_next capabilities a content m c is plan.wanted false plan.asks plan.accepted no_miscompare
         ∙ change_done capabilities a content m c is e plan.wanted plan.change
-        ∙ ap (λ (bytes : List ℕ). flat_applied a m c e bytes) (sym plan.bytes)
+        ∙ ap (λ (brought : NewBytes). flat_applied a m c e (bytes_for brought)) (sym plan.bytes)
 
     pub plan_journaled : is_journaled capabilities m c ≡ true
     plan_journaled = done_journaled capabilities a content m c is plan.wanted plan.asks plan.accepted no_miscompare

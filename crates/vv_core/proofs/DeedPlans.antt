@@ -18,14 +18,14 @@ use Rattle.vv_record.specs.declared.record.Event.{Event}
 use Rattle.vv_meaning.specs.Asks.{Wanted, Deed, Changes}
 use Rattle.vv_meaning.specs.Told.{refused_as}
 use Rattle.vv_meaning.specs.Calls.{asked}
-use Rattle.vv_meaning.specs.Meaning.{verdict_on, bytes_for}
+use Rattle.vv_meaning.specs.Meaning.{verdict_on}
 use Rattle.vv_meaning.proofs.Deeds.{call_brings}
 use Rattle.vv_core.specs.Core.{entry_shape}
 use Rattle.vv_core.specs.Placed.{IsPlacedEvent}
 use Rattle.vv_core.specs.declared.planned.Fill.{Fill}
 use Rattle.vv_core.specs.declared.planned.Planned.{Planned}
 use Rattle.vv_core.specs.declared.planned.Planned.TheVariants as planned
-use Rattle.vv_core.specs.Plans.{payload_of, settled_reply, settled_by, blocks_written, bytes_filled, blocks_compared, IsPlannedFor, IsRefusedFor}
+use Rattle.vv_core.specs.Plans.{payload_of, settled_reply, settled_by, blocks_written, bytes_filled, image_filling, turning_task, blocks_compared, IsPlannedFor, IsRefusedFor}
 use Rattle.vv_core.specs.PlannedDeeds.{IsDeedPlanned, IsDeedRefused, IsDeedJournaled}
 
 module _ (capabilities : List Capability) (a : Array Entry) (c : Call) where
@@ -39,6 +39,7 @@ module _ (capabilities : List Capability) (a : Array Entry) (c : Call) where
     change = h.change;
     reply_is = h.reply_is;
     bytes = h.bytes;
+    image = h.image;
     compared = h.compared;
     brings = call_brings (entry_shape a) c h.wanted h.asks;
     places = h.places;
@@ -73,15 +74,17 @@ module _ (capabilities : List Capability) (d : Durable Entry) (w : Wanted) (answ
   -- One that is accepted is journaled as its event.
   pub placed_journal : (payload : List ℕ) (e : Event) (filled : Fill) (compare : Bool) → IsPlacedEvent d w.change e
       → Accept ≡ verdict_on capabilities (shape_of_tables d) w.change → answer ≡ w.accepted
-      → bytes_for (bytes_filled filled compare (blocks_written e) payload) ≡ bytes_for w.bytes → blocks_compared compare (blocks_written e) payload ≡ w.compared
+      → bytes_filled filled compare (blocks_written e) payload ≡ w.bytes → image_filling filled ≡ turning_task w.change
+      → blocks_compared compare (blocks_written e) payload ≡ w.compared
       → IsDeedJournaled capabilities d (Changes w) payload e filled compare answer
-  placed_journal payload e filled compare placed accepted is bytes compared = record {
+  placed_journal payload e filled compare placed accepted is bytes image compared = record {
     wanted = w;
     asks = refl;
     accepted = sym accepted;
     change = placed.change_is;
     reply_is = is;
     bytes = bytes;
+    image = image;
     compared = compared;
     places = placed.places ∙ ap (planned_places d) (sym placed.change_is);
     fits = placed.fits;

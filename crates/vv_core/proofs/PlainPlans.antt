@@ -20,8 +20,9 @@ use Rattle.vv_core.specs.Placed.{IsPlacedEvent}
 use Rattle.vv_core.specs.declared.planned.Fill.TheVariants as fill
 use Rattle.vv_core.specs.declared.planned.Planned.TheVariants as planned
 use Rattle.vv_core.specs.Plans.{payload_of, settled_reply, IsPlannedFor}
+use Rattle.vv_core.specs.FormedChanges.{IsFormedChange}
 use Rattle.vv_core.proofs.DeedPlans.{planned_call, settles_refused, settles_nothing, placed_journal}
-use Rattle.vv_core.proofs.PlainRows.{PlainRow, plain_wanted, plain_row}
+use Rattle.vv_core.proofs.PlainRows.{PlainRow, plain_wanted, plain_row, turns_none}
 
 same_item : {A : Type 0} (x y : A) (o : Option A) → Some x ≡ o → o ≡ Some y → x ≡ y
 same_item x y o e f = let g : Some x ≡ Some y = e ∙ f in cc
@@ -64,11 +65,11 @@ module _ (capabilities : List Capability) (d : Durable Entry) (v : Volatile) (c 
         ap (settled_reply capabilities (shape_of_tables d)) row.asks
         ∙ settles_nothing capabilities d (plain_wanted change row.accepted row.nothing) answer r (same_item answer row.nothing (nothing_reply (with_volatile (shape_of_tables d) v) c) is row.nothing_is)
 
-    pub plain_journaled : (event : Event) (answer : Reply) → IsPlacedEvent d change event → Accept ≡ verdict_on capabilities (shape_of_tables d) change
+    pub plain_journaled : (event : Event) (answer : Reply) → IsFormedChange change → IsPlacedEvent d change event → Accept ≡ verdict_on capabilities (shape_of_tables d) change
         → Some answer ≡ accepted_reply (with_volatile (shape_of_tables d) v) c
         → IsPlannedFor capabilities (record { durable = d; volatile = v }) c (planned.Journal event fill.Nothing false answer)
-    plain_journaled event answer placed accepted is =
+    plain_journaled event answer formed placed accepted is =
         planned_call capabilities (record { durable = d; volatile = v }) c (Changes (plain_wanted change row.accepted row.nothing)) (payload_of v c) (sym row.asks) refl
         (Ok (planned.Journal event fill.Nothing false answer))
         (placed_journal capabilities d (plain_wanted change row.accepted row.nothing) answer (payload_of v c) event fill.Nothing false placed accepted
-        (same_item answer row.accepted (accepted_reply (with_volatile (shape_of_tables d) v) c) is row.accepted_is) refl refl)
+        (same_item answer row.accepted (accepted_reply (with_volatile (shape_of_tables d) v) c) is row.accepted_is) refl (sym (turns_none change formed)) refl)

@@ -22,6 +22,7 @@ use Rattle.vv_meaning.specs.Calls.{asked}
 use Rattle.vv_meaning.specs.Forms.{is_command_call}
 use Rattle.vv_plan.specs.Plans.{may_take_places, change_in, accepted_in, nothing_in, plain_change, answered_reply, accepted_reply, nothing_reply}
 use Rattle.vv_plan.proofs.PlannedRows.{change_told}
+use Rattle.vv_core.specs.Plans.{turning_task}
 use Rattle.vv_core.specs.FormedChanges.{AreEndpointNumbers, IsFormedChange, has_few_needs}
 
 -- ---- the row
@@ -185,3 +186,24 @@ takes_none d (event.StartClone volume) h = record { none = refl; places = refl; 
 takes_none d (event.StartCopy source base target) h = record { none = refl; places = refl; indexes = refl }
 takes_none d (event.Turn task copies) h = absurd h
 takes_none d (event.Cancel task) h = record { none = refl; places = refl; indexes = refl }
+
+-- a change that takes no place is no turn
+pub turns_none : (ch : Change) → IsFormedChange ch → turning_task ch ≡ None
+turns_none (change.MakeContainer quota offers) h = refl
+turns_none (change.MakeVolume container vtype chunks needs) h = refl
+turns_none (change.DeleteVolume volume) h = refl
+turns_none (change.GrowVolume volume chunks) h = refl
+turns_none (change.SetMetadata volume key text) h = refl
+turns_none (change.Snapshot volume) h = refl
+turns_none (change.FastClone volume) h = refl
+turns_none (change.Revert volume snapshot) h = refl
+turns_none (change.Write volume first_block blocks) h = refl
+turns_none (change.Unmap volume ranges) h = refl
+turns_none (change.SetEndpoints host endpoints) h = refl
+turns_none (change.Bind host volume) h = refl
+turns_none (change.Unbind host endpoint secondary) h = refl
+turns_none (change.UnbindAll host) h = refl
+turns_none (change.StartClone volume) h = refl
+turns_none (change.StartCopy source base target) h = refl
+turns_none (change.Turn task) h = absurd h
+turns_none (change.Cancel task) h = refl

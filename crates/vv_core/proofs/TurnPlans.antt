@@ -52,4 +52,4 @@ module _ (capabilities : List Capability) (d : Durable Entry) (v : Volatile) (ta
   turn_journaled e answer placed accepted is =
       planned_call capabilities (record { durable = d; volatile = v }) (call.Turn task) (Changes (turn_wanted (shape_of_tables d) task.0)) [] (sym turn_deed) refl
       (Ok (planned.Journal e (fill.Image task) false answer))
-      (placed_journal capabilities d (turn_wanted (shape_of_tables d) task.0) answer [] e (fill.Image task) false placed accepted is refl refl)
+      (placed_journal capabilities d (turn_wanted (shape_of_tables d) task.0) answer [] e (fill.Image task) false placed accepted is refl refl refl)

@@ -11,13 +11,13 @@ use Rattle.vv_reply.specs.declared.reply.Reply.{Reply}
 use Rattle.vv_meaning.specs.Asks.{Without, AsSense, NewBytes, Wanted, Deed}
 use Rattle.vv_meaning.specs.Told.{good}
 use Rattle.vv_meaning.specs.Commands.{writes}
-use Rattle.vv_meaning.specs.Meaning.{verdict_on, bytes_for}
+use Rattle.vv_meaning.specs.Meaning.{verdict_on}
 use Rattle.vv_plan.specs.CommandAsks.{unmaps_ranges}
 use Rattle.vv_core.specs.Placed.{IsPlacedEvent}
 use Rattle.vv_core.specs.declared.planning_commands.BlockWrite.{BlockWrite}
 use Rattle.vv_core.specs.declared.planned.Fill.{Fill}
 use Rattle.vv_core.specs.declared.planned.Fill.TheVariants as fill
-use Rattle.vv_core.specs.Plans.{blocks_written, bytes_filled, blocks_compared}
+use Rattle.vv_core.specs.Plans.{blocks_written, bytes_filled, image_filling, blocks_compared}
 use Rattle.vv_core.specs.PlannedDeeds.{IsDeedJournaled}
 use Rattle.vv_core.proofs.DeedPlans.{placed_journal}
 use Rattle.vv_core.proofs.CommandPlans.{written_are}
@@ -50,16 +50,16 @@ unmap_wanted volume ranges = record {
 }
 
 module _ (capabilities : List Capability) (d : Durable Entry) (answer : Reply) (payload : List ℕ) (e : Event) (is : answer ≡ good []) where
-  pub write_journaled : (volume first blocks : ℕ) (filled : Fill) (compare : Bool) → IsPlacedEvent d (change.Write volume first blocks) e
+  pub write_journaled : (volume first blocks : ℕ) (filled : Fill) (compare : Bool) → image_filling filled ≡ None → IsPlacedEvent d (change.Write volume first blocks) e
       → Accept ≡ verdict_on capabilities (shape_of_tables d) (change.Write volume first blocks)
       → IsDeedJournaled capabilities d (writes volume first blocks (bytes_filled filled compare blocks payload) (blocks_compared compare blocks payload)) payload e filled compare answer
-  write_journaled volume first blocks filled compare placed accepted =
+  write_journaled volume first blocks filled compare image placed accepted =
       let same : blocks_written e ≡ blocks = written_are e volume first blocks placed.change_is in
       placed_journal capabilities d (write_wanted volume first blocks (bytes_filled filled compare blocks payload) (blocks_compared compare blocks payload)) answer payload e filled compare
-      placed accepted is (ap (λ n. bytes_for (bytes_filled filled compare n payload)) same) (ap (λ n. blocks_compared compare n payload) same)
+      placed accepted is (ap (λ n. bytes_filled filled compare n payload) same) image (ap (λ n. blocks_compared compare n payload) same)
 
   pub unmap_journaled : (volume : ℕ) (ranges : List (ℕ × ℕ)) → IsPlacedEvent d (change.Unmap volume ranges) e
       → Accept ≡ verdict_on capabilities (shape_of_tables d) (change.Unmap volume ranges)
       → IsDeedJournaled capabilities d (unmaps_ranges volume ranges) payload e fill.Nothing false answer
   unmap_journaled volume ranges placed accepted =
-      placed_journal capabilities d (unmap_wanted volume ranges) answer payload e fill.Nothing false placed accepted is refl refl
+      placed_journal capabilities d (unmap_wanted volume ranges) answer payload e fill.Nothing false placed accepted is refl refl refl

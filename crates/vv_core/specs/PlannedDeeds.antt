@@ -20,11 +20,11 @@ use Rattle.vv_reply.specs.declared.reply.Reply.TheVariants as reply
 use Rattle.vv_reply.specs.declared.reply.Refusal.{Refusal}
 use Rattle.vv_reply.specs.declared.reply.Refusal.TheVariants as fault
 use Rattle.vv_meaning.specs.Asks.{Wanted, Deed, Reads, Changes}
-use Rattle.vv_meaning.specs.Meaning.{verdict_on, bytes_for}
+use Rattle.vv_meaning.specs.Meaning.{verdict_on}
 use Rattle.vv_core.specs.declared.planned.Fill.{Fill}
 use Rattle.vv_core.specs.declared.planned.Planned.{Planned}
 use Rattle.vv_core.specs.declared.planned.Planned.TheVariants as planned
-use Rattle.vv_core.specs.Plans.{settled_reply, is_refusal, blocks_written, bytes_filled, blocks_compared}
+use Rattle.vv_core.specs.Plans.{settled_reply, is_refusal, blocks_written, bytes_filled, image_filling, turning_task, blocks_compared}
 
 pub record IsDeedAnswered (capabilities : List Capability) (d : Durable Entry) (deed : Deed) (answer : Reply) : Type 0 where
   pub settles : settled_reply capabilities (shape_of_tables d) deed ≡ Some answer
@@ -43,7 +43,8 @@ pub record IsDeedJournaled (capabilities : List Capability) (d : Durable Entry) 
   pub accepted : verdict_on capabilities (shape_of_tables d) wanted.change ≡ Accept
   pub change : change_of e ≡ wanted.change
   pub reply_is : answer ≡ wanted.accepted
-  pub bytes : bytes_for (bytes_filled filled compare (blocks_written e) payload) ≡ bytes_for wanted.bytes
+  pub bytes : bytes_filled filled compare (blocks_written e) payload ≡ wanted.bytes
+  pub image : image_filling filled ≡ turning_task wanted.change
   pub compared : blocks_compared compare (blocks_written e) payload ≡ wanted.compared
   pub places : places_of e ≡ planned_places d (change_of e)
   pub fits : IsTrue (record_fits d (log_record (record { first_after_open = false; event = e })))

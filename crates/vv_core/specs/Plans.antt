@@ -7,6 +7,7 @@ use Rattle.vv_flat.specs.Chunks.{Entry, shape_of_tables, volume_blocks, compared
 use Rattle.vv_flat.specs.Volatile.{queue_head}
 use Rattle.vv_flat.specs.Profiles.{Capability}
 use Rattle.vv_flat.specs.Refusals.{Verdict, Refuse, Nothing, Accept}
+use Rattle.vv_flat.specs.Changes.{Change, Turn}
 use Rattle.vv_flat.specs.Fields.{change_has_forms}
 use Rattle.vv_flat.specs.Flat.{has_its_bytes}
 use Rattle.vv_flat.specs.Logs.{record_fits}
@@ -50,6 +51,18 @@ bytes_filled fill.Bytes compare blocks payload = These (if compare then written_
 bytes_filled fill.Same compare blocks payload = Repeated payload blocks
 bytes_filled (fill.Image task) compare blocks payload = OfImage
 
+-- the task whose image fills new chunks, if one does
+abbrev pub image_filling : Fill → Option ℕ
+image_filling fill.Nothing = None
+image_filling fill.Bytes = None
+image_filling fill.Same = None
+image_filling (fill.Image task) = Some task.0
+
+-- the task whose turn a change is, if it is one
+abbrev pub turning_task : Change → Option ℕ
+turning_task (Turn task) = Some task
+turning_task _ = None
+
 -- the blocks that are to stand where a write is to be, if it is to compare them first
 abbrev pub blocks_compared : Bool → ℕ → List ℕ → Option (List ℕ)
 blocks_compared compare blocks payload = if compare then Some (compared_half blocks payload) else None
@@ -88,15 +101,17 @@ pub record IsReadPlan (a : Array Entry) (c : Call) (volume first blocks : ℕ) :
   pub within : first + blocks ≤ volume_blocks a.durable.geometry.chunk_blocks stands.chunks
   pub few : blocks ≤ 2048
 
--- A change that is accepted is journaled as this event, at the lowest places that no entry names; it brings the bytes that it
--- is to bring, and they are as many as it needs. The event can be spelled, and its record fits.
+-- A change that is accepted is journaled as this event, at the lowest places that no entry names. What fills its new chunks is
+-- what the call brings: nothing, its bytes, its one block, or the image of the task whose turn it is. It brings as many bytes as
+-- it needs. The event can be spelled, and its record fits.
 pub record IsJournalPlan (capabilities : List Capability) (a : Array Entry) (c : Call) (e : Event) (filled : Fill) (compare : Bool) (answer : Reply) : Type 0 where
   pub wanted : Wanted
   pub asks : (asked (entry_shape a) c).deed ≡ Changes wanted
   pub accepted : verdict_on capabilities (shape_of_tables a.durable) wanted.change ≡ Accept
   pub change : change_of e ≡ wanted.change
   pub reply_is : answer ≡ wanted.accepted
-  pub bytes : bytes_for (bytes_filled filled compare (blocks_written e) (payload_of a.volatile c)) ≡ bytes_for wanted.bytes
+  pub bytes : bytes_filled filled compare (blocks_written e) (payload_of a.volatile c) ≡ wanted.bytes
+  pub image : image_filling filled ≡ turning_task wanted.change
   pub compared : blocks_compared compare (blocks_written e) (payload_of a.volatile c) ≡ wanted.compared
   pub brings : IsTrue (has_its_bytes wanted.change (bytes_for wanted.bytes))
   pub places : places_of e ≡ planned_places a.durable (change_of e)

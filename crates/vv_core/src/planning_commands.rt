@@ -12,7 +12,7 @@ ghost use Rattle.vv_plan.specs.FitDeeds.{is_fit, is_fit_change};
 ghost use Rattle.vv_plan.specs.SeenArrays.{seen_array};
 ghost use Rattle.vv_profile.specs.Known.{all_known};
 ghost use Rattle.vv_reply.specs.declared.reply.Refusal.TheVariants as fault;
-ghost use Rattle.vv_core.specs.Plans.{bytes_filled, blocks_compared};
+ghost use Rattle.vv_core.specs.Plans.{bytes_filled, image_filling, blocks_compared};
 ghost use Rattle.vv_core.specs.PlannedDeeds.{IsDeedPlanned, IsDeedRefused};
 
 use crate::event_forms::has_forms;
@@ -134,7 +134,8 @@ fn plan_write(
     capabilities: &Capabilities,
     write: BlockWrite,
 ) -> Result<Planned, Refusal>
-    requires { write.blocks ≤ 2048 }
+    requires few { write.blocks ≤ 2048 }
+    requires image { image_filling write.fill ≡ None }
     ensures planned { (payload : List ℕ) → IfOk result (IsDeedPlanned (all_known capabilities.now) tables.now.durable
         (writes write.volume.0 write.first write.blocks (bytes_filled write.fill write.compare write.blocks payload) (blocks_compared write.compare write.blocks payload)) payload) }
     ensures refused { (payload : List ℕ) → IfErr result (IsDeedRefused (all_known capabilities.now) tables.now.durable
@@ -156,6 +157,7 @@ fn plan_write(
 /// The plan of a write that is accepted.
 fn journal_write(alloc: Global, tables: &Tables, write: BlockWrite) -> Result<Planned, Refusal>
     requires few { write.blocks ≤ 2048 }
+    requires image { image_filling write.fill ≡ None }
     requires accepted { judge None (shape_of_tables tables.now.durable) (Write write.volume.0 write.first write.blocks) ≡ Accept }
     ensures planned { (capabilities : List Capability) (payload : List ℕ) → verdict_on capabilities (shape_of_tables tables.now.durable) (Write write.volume.0 write.first write.blocks) ≡ Accept
         → IfOk result (IsDeedPlanned capabilities tables.now.durable

@@ -74,4 +74,5 @@ returns-in-Nothing-clause-refused g c v =
 pub returns-in-Accept-clause-planned : goal.returns-in-Accept-clause-planned
 returns-in-Accept-clause-planned g c v =
     plain_journaled (all_known c.args.capabilities.now) c.args.tables.now.durable v c.args.call.now (change_of c.args.event) (c.requires.asked v) c.args.event c.reply_to_change.result
+    (formed_change (with_volatile (shape_of_tables c.args.tables.now.durable) v) c.args.call.now (change_of c.args.event) c.requires.formed (c.requires.asked v))
     c.is_placed.ensures c.in-Accept.ensures.verdict (c.reply_to_change.ensures v)

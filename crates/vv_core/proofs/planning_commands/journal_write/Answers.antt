@@ -6,4 +6,4 @@ pub returns-clause-planned : goal.returns-clause-planned
 returns-clause-planned c capabilities payload accepted =
     let write = c.args.write in
     write_journaled capabilities c.args.tables.now.durable c.good.result payload c.in-Ok.event c.good.ensures write.volume.0 write.first write.blocks write.fill write.compare
-    c.in-Ok.ensures (sym accepted)
+    c.requires.image c.in-Ok.ensures (sym accepted)

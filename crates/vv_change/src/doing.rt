@@ -1,10 +1,10 @@
 //! Doing an event, with memory that was taken before.
-ghost use Rattle.std.specs.Prelude.{◌≡◌, IsTrue};
+ghost use Rattle.std.specs.Prelude.{◌≡◌, ◌+◌, IsTrue};
 ghost use Rattle.vv_flat.specs.Replay.{fits, replayed};
 ghost use Rattle.vv_flat.specs.Fields.{change_has_forms};
 ghost use Rattle.vv_flat.specs.Logs.{has_turn_indexes};
 ghost use Rattle.vv_event.specs.Events.{change_of, places_of, indexes_of};
-ghost use Rattle.vv_change.specs.Rooms.{IsRoomFor, IsCheap};
+ghost use Rattle.vv_change.specs.Rooms.{IsRoomFor, IsCheap, rows_of};
 
 use crate::room::Room;
 use std::sync::ledger::Ledger;
@@ -12,7 +12,8 @@ use vv_pool::Steps;
 use vv_record::Event;
 use vv_tables::Tables;
 
-/// Does an event that fits the tables: they are what a record of it makes of them. It takes no memory but the room's.
+/// Does an event that fits the tables: they are what a record of it makes of them. It takes no memory but the room's, and all of
+/// its rows.
 #[tactic(auto, unfolding(vv_event::specs::Events::change_of, vv_event::specs::Events::places_of))]
 pub fn apply<L: Ledger>(tables: &mut Tables, event: &Event, room: Room, steps: &mut Steps<L>)
     requires fits { IsTrue (fits tables.old.durable (change_of event.now) (places_of event.now)) }
@@ -20,6 +21,7 @@ pub fn apply<L: Ledger>(tables: &mut Tables, event: &Event, room: Room, steps: &
     requires indexes { IsTrue (has_turn_indexes tables.old.durable (change_of event.now) (indexes_of event.now)) }
     requires room { IsRoomFor tables.old event.now room }
     ensures durable { tables.new.durable ≡ replayed tables.old.durable (change_of event.now) (places_of event.now) }
+    ensures rooms { tables.new.rooms + rows_of room ≡ tables.old.rooms }
     ensures steps { IsCheap tables.old event.now steps.old steps.new }
 {
     match event {

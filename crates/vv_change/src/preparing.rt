@@ -1,5 +1,5 @@
 //! Taking the memory of an event, and giving it back.
-ghost use Rattle.std.specs.Prelude.{◌≡◌, IsSome, IsTrue, IfOk, OnErr};
+ghost use Rattle.std.specs.Prelude.{◌≡◌, ◌+◌, IsSome, IsTrue, IfOk, OnErr};
 ghost use Rattle.vv_units.specs.Pairs.{after_set};
 ghost use Rattle.vv_flat.specs.State.{volume_of};
 ghost use Rattle.vv_flat.specs.Changes as change;
@@ -7,7 +7,7 @@ ghost use Rattle.vv_flat.specs.Replay.{fits};
 ghost use Rattle.vv_flat.specs.Fields.{change_has_forms};
 ghost use Rattle.vv_event.specs.Events.{change_of, places_of};
 ghost use Rattle.vv_tables.specs.Copies.{differing};
-ghost use Rattle.vv_change.specs.Rooms.{IsRoomFor, IsNewHead};
+ghost use Rattle.vv_change.specs.Rooms.{IsRoomFor, IsNewHead, rows_of};
 
 use crate::room::Room;
 use std::alloc::Global;
@@ -21,14 +21,15 @@ use vv_units::{
 };
 use vv_vols::Head;
 
-/// Takes all memory of an event that fits the tables. No list of a volume or of a running task changes. Where memory runs out
-/// the tables stay as they were.
+/// Takes all memory of an event that fits the tables. No list of a volume or of a running task changes, and but for the rows of
+/// the room the tables stay. Where memory runs out they stay as they were.
 #[tactic(auto, unfolding(vv_event::specs::Events::change_of, vv_event::specs::Events::places_of))]
 pub fn prepare(alloc: Global, tables: &mut Tables, event: &Event) -> Result<Room, NoMemory>
     requires fits { IsTrue (fits tables.old.durable (change_of event.now) (places_of event.now)) }
     requires forms { IsTrue (change_has_forms (change_of event.now)) }
     ensures room { IfOk result (λ room. IsRoomFor tables.new event.now room) }
     ensures same { tables.new.durable ≡ tables.old.durable }
+    ensures ok { IfOk result (λ room. tables.new ≡ record tables.old { rooms = tables.old.rooms + rows_of room }) }
     ensures err { OnErr result (tables.new ≡ tables.old) }
 {
     match event {

@@ -1,5 +1,5 @@
 -- For the room of a call with its event: what is asked of the event, and that its memory can be given back.
-use Rattle.std.proofs.Common.{ℕ, ◌≡◌, ◌≤◌, true, false, sym, ap, ◌∙◌, arith}
+use Rattle.std.proofs.Common.{ℕ, ◌≡◌, ◌≤◌, ◌+◌, ◌-◌, true, false, sym, ap, ◌∙◌, arith}
 use Rattle.vv_flat.specs.State.{Volatile, Durable, Array}
 use Rattle.vv_flat.specs.Chunks.{Entry, shape_of_tables}
 use Rattle.vv_flat.specs.Replay.{fits, replayed}
@@ -20,7 +20,7 @@ use Rattle.vv_change.specs.declared.room.Room.TheVariants as room
 use Rattle.vv_change.specs.Rooms as change
 use Rattle.vv_change.specs.Rooms.{rows_of}
 use Rattle.vv_core.specs.declared.step.WaitingStep.{WaitingStep}
-use Rattle.vv_core.specs.Core.{CoreState, seen_core, passed, applied}
+use Rattle.vv_core.specs.Core.{CoreMemory, CoreState, seen_core, passed, applied}
 use Rattle.vv_core.specs.Rooms.{CanStep, stepped, RoomState, IsEventRoomFor}
 use Rattle.vv_core.proofs.Kept.{replayed_form}
 use Rattle.vv_core.proofs.WaitingSteps.{stepped_form}
@@ -65,6 +65,10 @@ rows_within t (StartCopy source base target) r h = rows_by r (room.List h.list) 
 rows_within t (Turn task copies) r h = rows_by r (room.Turn h.turn) t.rooms h.is (none_of t.rooms)
 rows_within t (Cancel task) r h = rows_by r room.Without t.rooms h (none_of t.rooms)
 
+-- the memory of a core by its tables
+abbrev memory_in : TablesView → CoreMemory
+memory_in t = record { pages = t.pages; rooms = t.rooms }
+
 -- the room that was taken over tables whose durable part stayed
 pub event_room : (t u : TablesView) (v : Volatile) (c : Call) (e : Event) (s : WaitingStep) (r : Room) → u.durable ≡ t.durable
     → CanStep v s → stepped v s ≡ (asked (with_volatile (shape_of_tables t.durable) v) c).volatile
@@ -81,6 +85,13 @@ event_room t u v c e s r same can is fit forms enough = record {
   indexes = ap (λ (d : Durable Entry). has_turn_indexes d (change_of e) (indexes_of e)) same ∙ turn_fits t.durable e fit;
   change = enough;
 }
+
+-- the memory that was taken for it, once it is given back
+pub memory_back : (t u : TablesView) (r : Room) → u ≡ record t { rooms = t.rooms + rows_of r }
+    → record { pages = u.pages; rooms = u.rooms - rows_of r } ≡ memory_in t
+memory_back t u r is =
+    let back : t.rooms + rows_of r - rows_of r ≡ t.rooms = omega arith in
+    ap (λ (x : TablesView). record (memory_in x) { rooms = x.rooms - rows_of r }) is ∙ ap (λ n. record (memory_in t) { rooms = n }) back
 
 -- the room of a core that is seen
 pub room_seen : (k core : CoreState) (r s : RoomState) (c : Call) (e : Event) → k ≡ core → r ≡ s → IsEventRoomFor core c e s → IsEventRoomFor k c e r

@@ -1,5 +1,5 @@
 -- What a call does to queues and attentions once it was asked, and what room for a call is.
-use Rattle.std.specs.Prelude.{ℕ, ◌≡◌, ◌≤◌, IsTrue, IsFalse, ⊤}
+use Rattle.std.specs.Prelude.{ℕ, ◌≡◌, ◌≤◌, ◌-◌, IsTrue, IsFalse, ⊤}
 use Rattle.vv_flat.specs.State.{Volatile}
 use Rattle.vv_flat.specs.Volatile.{is_queue_full, queue_of, submitted, head_taken, without_attention}
 use Rattle.vv_bind.specs.Table.{IsHost, address}
@@ -14,7 +14,7 @@ use Rattle.vv_event.specs.Events.{change_of, places_of, indexes_of}
 use Rattle.vv_change.specs.declared.room.Room.{Room as ChangeRoom}
 use Rattle.vv_change.specs.Rooms as change
 use Rattle.vv_change.specs.Rooms.{rows_of}
-use Rattle.vv_core.specs.Core.{CoreState, tables_in, entry_shape}
+use Rattle.vv_core.specs.Core.{CoreMemory, CoreState, tables_in, entry_shape}
 use Rattle.vv_core.specs.declared.step.WaitingStep.{WaitingStep}
 use Rattle.vv_core.specs.declared.step.WaitingStep.TheVariants as step
 
@@ -43,6 +43,10 @@ CanStep v (step.TakeAndClear taken host endpoint secondary) = IsHost taken.0
 pub record RoomState : Type 0 where
   pub step : WaitingStep
   pub change : ChangeRoom
+
+-- a core's memory once that of a room is given back: the rows that it has are promised to nobody
+abbrev pub given_back : CoreMemory → RoomState → CoreMemory
+given_back m room = record m { rooms = m.rooms - rows_of room.change }
 
 -- Room for a call of this core that is not journaled: its step can be done, and is what the call asks.
 pub record IsRoomFor (core : CoreState) (c : Call) (room : RoomState) : Type 0 where

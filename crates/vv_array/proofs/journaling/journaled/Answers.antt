@@ -48,7 +48,7 @@ returns-in-Ok-true-clause-left g c = λ capabilities plan honest m up.
 
 pub returns-in-Ok-true-clause-tables : goal.returns-in-Ok-true-clause-tables
 returns-in-Ok-true-clause-tables g c =
-    ap (λ (x : Array Entry). x.durable.geometry) (c.pass.ensures ∙ ap (λ (x : Array Entry). passed x c.args.call.now) c.in-Ok-prepare_event.ensures.same)
+    ap (λ (x : Array Entry). x.durable.geometry) (c.pass.ensures.array ∙ ap (λ (x : Array Entry). passed x c.args.call.now) c.in-Ok-prepare_event.ensures.same)
     ∙ passed_sizes c.args.core.now.array c.args.call.now
 
 pub returns-in-Ok-true-clause-served : goal.returns-in-Ok-true-clause-served
@@ -63,7 +63,7 @@ returns-in-Ok-true-clause-served g c = λ capabilities plan honest m up.
     let kept = up_read c.args.journal.now a (g.D.Disk.content disk) (g.D.Disk.content later) (g.D.Disk.is_image disk) (g.D.Disk.is_image later) m c.is_miscompare.ensures.content c.is_miscompare.ensures.images up in (
       c.miscompared.ensures ∙ sym (differing_reply capabilities a up.content m call up.array_is p.record.event p.fill p.compare c.args.reply plan other),
       subst (λ (x : Array Entry). UpOn c.args.journal.now x (g.D.Disk.content later) (g.D.Disk.is_image later) (next capabilities m call))
-          (sym (c.pass.ensures ∙ ap (λ (x : Array Entry). passed x call) same))
+          (sym (c.pass.ensures.array ∙ ap (λ (x : Array Entry). passed x call) same))
           (differing_up capabilities a up.content m call up.array_is p.record.event p.fill p.compare c.args.reply plan other c.args.journal.now (g.D.Disk.content later) (g.D.Disk.is_image later) kept),
     )
 
@@ -118,7 +118,7 @@ returns-clause-served g c = λ capabilities plan honest m up.
       c.read_failed.ensures
           ∙ ap (λ (b : Bool). read_failed_as (form_when b)) c.ends_command.ensures
           ∙ ap (λ (f : Form). read_failed_as f) (sym (plan_form capabilities a up.content m call up.array_is p.record.event p.fill p.compare c.args.reply plan)),
-      subst (λ (x : Array Entry). UpOn c.args.journal.now x (g.D.Disk.content later) (g.D.Disk.is_image later) m) (sym (c.give_up.ensures ∙ same)) kept,
+      subst (λ (x : Array Entry). UpOn c.args.journal.now x (g.D.Disk.content later) (g.D.Disk.is_image later) m) (sym (c.give_up.ensures.array ∙ same)) kept,
     )
 
 pub returns-clause-left : goal.returns-clause-left

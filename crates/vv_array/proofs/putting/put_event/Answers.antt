@@ -44,7 +44,7 @@ returns-in-Err-clause-unread g c =
     → UpOn c.args.journal.now a (g.D.Disk.content c.args.disk.now) (g.D.Disk.is_image c.args.disk.now) m
     → UpOn c.put_planned.new.journal a told1 images1 m in
     read_of Unit Unit c.in-Err.fault Stands _
-    (λ stands honest m up. subst (λ (x : Array Entry). UpOn c.put_planned.new.journal x told1 images1 m) (sym c.give_up.ensures) (stands honest m up))
+    (λ stands honest m up. subst (λ (x : Array Entry). UpOn c.put_planned.new.journal x told1 images1 m) (sym c.give_up.ensures.array) (stands honest m up))
     c.in-Err.ensures.stands
 
 pub returns-in-Err-clause-left : goal.returns-in-Err-clause-left

@@ -1,12 +1,13 @@
-use Rattle.std.proofs.Common.{ap, ◌∙◌}
+use Rattle.std.proofs.Common.{◌+◌, sym, ap, subst, ◌∙◌}
 use Rattle.vv_flat.specs.State.{Volatile, Durable, Array}
 use Rattle.vv_flat.specs.Chunks.{Entry}
 use Rattle.vv_flat.specs.Replay.{replayed}
 use Rattle.vv_flat.specs.Changes.{attentions_after}
 use Rattle.vv_laws.specs.VolatileForm.{are_attentions, has_volatile_form}
 use Rattle.vv_event.specs.Events.{change_of, places_of}
-use Rattle.vv_core.specs.Core.{CoreState, seen_core, applied}
-use Rattle.vv_core.specs.Rooms.{stepped, IsEventRoomFor}
+use Rattle.vv_change.specs.Rooms.{IsCheap, rows_of}
+use Rattle.vv_core.specs.Core.{CoreState, seen_core, tables_in, applied}
+use Rattle.vv_core.specs.Rooms.{stepped, RoomState, IsEventRoomFor}
 use Rattle.vv_core.proofs.Kept.{form_attentions}
 use Rattle.vv_core.proofs.WaitingSteps.{stepped_form}
 use Rattle.vv_core.proofs.EventRooms.{room_seen, applied_form, applied_is}
@@ -44,8 +45,16 @@ invariant_of-self g c =
     })) c.do_step.ensures
     ∙ applied_form i.tables i.waiting c.args.call.now e s c.room.inside.change h c.self.invariant
 
-pub returns : goal.returns
-returns g c =
+pub returns-clause-rooms : goal.returns-clause-rooms
+returns-clause-rooms g c =
+    ap (λ (r : RoomState). c.apply.new.tables.rooms + rows_of r.change) (sym c.room.view_is) ∙ c.apply.ensures.rooms ∙ ap (λ (k : CoreState). k.memory.rooms) c.self.view_is
+
+pub returns-clause-steps : goal.returns-clause-steps
+returns-clause-steps g c =
+    subst (λ (k : CoreState). IsCheap (tables_in k) c.args.record.now.event c.args.steps.now c.apply.new.steps) c.self.view_is c.apply.ensures.steps
+
+pub returns-clause-array : goal.returns-clause-array
+returns-clause-array g c =
     let i = c.self.inside in
     let s = c.room.inside.step in
     let e = c.args.record.now.event in

@@ -25,7 +25,7 @@ impl Core {
         ensures room { IfOk result (IsRoomFor self.new call.now) }
         ensures same { self.new.array ≡ self.old.array }
         ensures memory { IfOk result (λ room. given_back self.new.memory room ≡ self.old.memory) }
-        ensures err { OnErr result (self.new.memory ≡ self.old.memory) }
+        ensures err { OnErr result (self.new ≡ self.old) }
     {
         let step = step_for(alloc, &self.tables, &self.waiting, call)?;
         Ok(Room {
@@ -48,15 +48,15 @@ impl Core {
         ensures room { IfOk result (IsEventRoomFor self.new call.now event.now) }
         ensures same { self.new.array ≡ self.old.array }
         ensures memory { IfOk result (λ room. given_back self.new.memory room ≡ self.old.memory) }
-        ensures err { OnErr result (self.new.memory ≡ self.old.memory) }
+        ensures err { OnErr result (self.new ≡ self.old) }
     {
         let step = step_for(alloc, &self.tables, &self.waiting, call)?;
         let change = vv_change::prepare(alloc, &mut self.tables, event)?;
         Ok(Room { step, change })
     }
 
-    /// Does a call with its event. It takes no memory but the room's, and all of its rows. A snapshot, a fast clone, a revert and the start of a full
-    /// clone take at most a step for every 64 chunks.
+    /// Does a call with its event. It takes no memory but the room's, and all of its rows. A snapshot, a fast clone, a revert and
+    /// the start of a full clone take at most a step for every 64 chunks.
     pub fn apply<L: Ledger>(
         &mut self,
         call: &Call,

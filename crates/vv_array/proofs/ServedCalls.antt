@@ -18,14 +18,14 @@ use Rattle.vv_meaning.specs.Asks.{Form, Reads, AsFault, AsSense}
 use Rattle.vv_meaning.specs.Told.{good, read_failed_as, write_failed_as}
 use Rattle.vv_meaning.specs.Calls.{asked}
 use Rattle.vv_meaning.specs.Meaning.{next, blocks_at}
-use Rattle.vv_core.specs.Core.{passed, entry_shape}
+use Rattle.vv_core.specs.Core.{CoreState, passed, entry_shape}
 use Rattle.vv_record.specs.declared.record.Event.{Event}
 use Rattle.vv_core.specs.declared.planned.Fill.{Fill}
 use Rattle.vv_core.specs.Plans.{IsRefusedFor, IsJournalPlan}
 use Rattle.vv_array.specs.Standing.{flat_over, StandsKept, UpOn}
 use Rattle.vv_array.specs.declared.ended.Ended.{Ended}
 use Rattle.vv_array.specs.declared.ended.Ended.TheVariants as ended
-use Rattle.vv_array.specs.Served.{IsServed, IsSettled, LeftIn, HasStayed, IsCaused}
+use Rattle.vv_array.specs.Served.{IsServed, IsSettled, LeftIn, HasStayed, IsWithoutMemory, IsCaused}
 use Rattle.vv_array.specs.Faults.{cause_of}
 use Rattle.vv_array.specs.FaultsTold.{TellsNoFailure, TellsItsFailure}
 use Rattle.vv_array.proofs.Stands.{up_stands, up_fewer}
@@ -69,12 +69,12 @@ settled_served capabilities journal a new told images m c ended.NoMemory up is =
 
 -- .. and what it left as it was
 
-pub settled_stayed : (capabilities : List Capability) (journal : JournalState) (a new : Array Entry) (told : Option (List ℕ)) (c : Call) (e : Ended)
-    → IsSettled capabilities a new c e → HasStayed e journal journal a new told told
-settled_stayed capabilities journal a new told c (ended.Replied answer) is = tt
-settled_stayed capabilities journal a new told c (ended.ReadFailed answer) is = tt
-settled_stayed capabilities journal a new told c (ended.WriteFailed answer) is = tt
-settled_stayed capabilities journal a new told c ended.NoMemory is = (refl, (is, refl))
+pub settled_stayed : (journal : JournalState) (core new : CoreState) (told : Option (List ℕ)) (e : Ended) → (IsWithoutMemory e → new ≡ core)
+    → HasStayed e journal journal core new told told
+settled_stayed journal core new told (ended.Replied answer) is = tt
+settled_stayed journal core new told (ended.ReadFailed answer) is = tt
+settled_stayed journal core new told (ended.WriteFailed answer) is = tt
+settled_stayed journal core new told ended.NoMemory is = (refl, (is tt, refl))
 
 pub settled_caused : (capabilities : List Capability) (a new : Array Entry) (reads_before reads_now writes_before writes_now : ℕ) (c : Call) (e : Ended)
     → IsSettled capabilities a new c e → IsCaused reads_before reads_now writes_before writes_now e

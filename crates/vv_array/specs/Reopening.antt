@@ -29,13 +29,12 @@ IsServedUp capabilities m c (IsDown geometry) told images end = ⊥
 
 -- .. and where there was no memory, it and what is read of its disk stayed.
 abbrev pub HasStayedUp : Ended → ArrayView → ArrayView → Option (List ℕ) → Option (List ℕ) → Type 0
-HasStayedUp end (IsUp journal core) (IsUp later after) told now = HasStayed end journal later core.array after.array told now
+HasStayedUp end (IsUp journal core) (IsUp later after) told now = HasStayed end journal later core after told now
 HasStayedUp end (IsUp journal core) (IsDown geometry) told now = ⊥
 HasStayedUp end (IsDown geometry) after told now = ⊥
 
--- An array that is up is as it was: its journal, and its tables, queues and attentions. The memory that it has set aside for
--- further lists is no part of that.
+-- An array that is up is as it was: its journal, its tables, queues and attentions, and the memory that it has for lists.
 abbrev pub IsAsBefore : ArrayView → ArrayView → Type 0
-IsAsBefore (IsUp journal core) (IsUp later after) = (later ≡ journal) × (after.array ≡ core.array)
+IsAsBefore (IsUp journal core) (IsUp later after) = (later ≡ journal) × (after ≡ core)
 IsAsBefore (IsUp journal core) (IsDown geometry) = ⊥
 IsAsBefore (IsDown geometry) after = ⊥

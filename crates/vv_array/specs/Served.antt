@@ -10,7 +10,7 @@ use Rattle.vv_reply.specs.declared.reply.Reply.{Reply}
 use Rattle.vv_meaning.specs.Told.{read_failed_as, write_failed_as}
 use Rattle.vv_meaning.specs.Meaning.{reply, next}
 use Rattle.vv_meaning.specs.Steps.{is_journaled, moves_blocks, form_for, no_memory}
-use Rattle.vv_core.specs.Core.{passed}
+use Rattle.vv_core.specs.Core.{CoreState, passed}
 use Rattle.vv_core.specs.Plans.{settled}
 use Rattle.vv_array.specs.Standing.{StandsKept, UpOn, DownOn}
 use Rattle.vv_array.specs.Moments.{LeftBy}
@@ -58,12 +58,12 @@ IsSettled capabilities old new c (ended.ReadFailed answer) = ⊥
 IsSettled capabilities old new c (ended.WriteFailed answer) = ⊥
 IsSettled capabilities old new c ended.NoMemory = new ≡ old
 
--- Where there was no memory, the array and what is read of the disk are as they were.
-abbrev pub HasStayed : Ended → JournalState → JournalState → Array Entry → Array Entry → Option (List ℕ) → Option (List ℕ) → Type 0
-HasStayed (ended.Replied answer) j j' a a' told told' = ⊤
-HasStayed (ended.ReadFailed answer) j j' a a' told told' = ⊤
-HasStayed (ended.WriteFailed answer) j j' a a' told told' = ⊤
-HasStayed ended.NoMemory j j' a a' told told' = (j' ≡ j) × ((a' ≡ a) × (told' ≡ told))
+-- Where there was no memory, all of the array and what is read of the disk are as they were.
+abbrev pub HasStayed : Ended → JournalState → JournalState → CoreState → CoreState → Option (List ℕ) → Option (List ℕ) → Type 0
+HasStayed (ended.Replied answer) j j' core core' told told' = ⊤
+HasStayed (ended.ReadFailed answer) j j' core core' told told' = ⊤
+HasStayed (ended.WriteFailed answer) j j' core core' told told' = ⊤
+HasStayed ended.NoMemory j j' core core' told told' = (j' ≡ j) × ((core' ≡ core) × (told' ≡ told))
 
 -- there was no memory
 abbrev pub IsWithoutMemory : Ended → Type 0

@@ -178,7 +178,7 @@ pub(crate) fn journaled<D: Disk>(
     ensures left { (capabilities : List Capability) → IsJournalPlan capabilities core.old.array call.now planned.record.event planned.fill planned.compare reply
         → D.is_honest disk.old → (m : SeenArray ChunkValue) → UpOn journal.old core.old.array (D.content disk.old) (D.is_image disk.old) m
         → LeavesOnly D.moment D.left_since disk.old disk.new (LeftIn capabilities m call.now result) }
-    ensures stayed { HasStayed result journal.old journal.new core.old.array core.new.array (D.content disk.old) (D.content disk.new) }
+    ensures stayed { HasStayed result journal.old journal.new core.old core.new (D.content disk.old) (D.content disk.new) }
     ensures unwritten { IsWithoutMemory result → LeavesOnly D.moment D.left_since disk.old disk.new (D.is_image disk.old) }
     ensures fits { FitsReply (answer_of result) }
     ensures told { TellsItsFailure result }

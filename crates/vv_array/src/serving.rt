@@ -55,7 +55,7 @@ pub(crate) fn serve<D: Disk>(
         → LeavesOnly D.moment D.left_since disk.old disk.new (LeftIn (all_known capabilities.now) m call.now result) }
 
     // Where there was no memory, nothing was written.
-    ensures stayed { HasStayed result journal.old journal.new core.old.array core.new.array (D.content disk.old) (D.content disk.new) }
+    ensures stayed { HasStayed result journal.old journal.new core.old core.new (D.content disk.old) (D.content disk.new) }
     ensures unwritten { IsWithoutMemory result → LeavesOnly D.moment D.left_since disk.old disk.new (D.is_image disk.old) }
 
     // What it is answered has a text.
@@ -107,6 +107,7 @@ fn answered(alloc: Global, core: &mut Core, call: &Call, reply: Reply) -> Ended
     requires { IsFormed call.now }
     ensures settled { (capabilities : List Capability) → settled capabilities core.old.array call.now ≡ Some reply
         → IsSettled capabilities core.old.array core.new.array call.now result }
+    ensures memory { IsWithoutMemory result → core.new ≡ core.old }
     ensures text { FitsReply reply → FitsReply (answer_of result) }
     ensures told { TellsNoFailure reply → TellsItsFailure result }
 {
@@ -124,6 +125,7 @@ fn refused(alloc: Global, core: &mut Core, call: &Call, refusal: Refusal) -> End
     requires { IsFormed call.now }
     ensures settled { (capabilities : List Capability) → IsRefusedFor capabilities core.old.array call.now refusal
         → IsSettled capabilities core.old.array core.new.array call.now result }
+    ensures memory { IsWithoutMemory result → core.new ≡ core.old }
     ensures fits { FitsReply (answer_of result) }
     ensures told { (capabilities : List Capability) → IsRefusedFor capabilities core.old.array call.now refusal → TellsItsFailure result }
 {
@@ -152,7 +154,7 @@ fn read<D: Disk>(
         → IsServed capabilities m call.now journal core.new.array (D.content disk.new) (D.is_image disk.new) result }
     ensures any_moment { LeavesOnly D.moment D.left_since disk.old disk.new (D.is_image disk.old) }
     ensures fits { FitsReply (answer_of result) }
-    ensures stayed { (journal : JournalState) → HasStayed result journal journal core.old.array core.new.array (D.content disk.old) (D.content disk.new) }
+    ensures stayed { (journal : JournalState) → HasStayed result journal journal core.old core.new (D.content disk.old) (D.content disk.new) }
     ensures cause { IsCaused (D.read_faults disk.old) (D.read_faults disk.new) (D.write_faults disk.old) (D.write_faults disk.new) result }
     ensures told { TellsItsFailure result }
     ensures tables { core.new.array.durable ≡ core.old.array.durable }

@@ -23,7 +23,7 @@ ghost use Rattle.vv_core.specs.Plans.{IsJournalPlan, blocks_compared, blocks_wri
 ghost use Rattle.vv_array.specs.Standing.{UpOn};
 ghost use Rattle.vv_array.specs.FaultsTold.{TellsItsFailure};
 ghost use Rattle.vv_array.specs.Served.{answer_of, IsServed, LeftIn, IsCaused, HasStayed, IsWithoutMemory};
-ghost use Rattle.vv_array.specs.EventMemory.{IsEventMemory, Compares};
+ghost use Rattle.vv_array.specs.EventMemory.{IsEventMemory, Compares, buffer_bytes};
 ghost use Rattle.vv_array.specs.Payloads.{blocks_to_compare};
 
 use crate::block_reads::{block_buffer, read_some};
@@ -60,7 +60,7 @@ fn take_memory(
     let payload = record_bytes(alloc, planned)?;
     let blocks = blocks_written(&planned.record.event);
     let repeated = repeated(alloc, planned.fill, blocks, payload_of(core, call))?;
-    let chunk = chunk_buffer(alloc, core.geometry())?;
+    let chunk = chunk_buffer(alloc, core.geometry(), &planned.record.event)?;
     let tables = table_buffer(alloc)?;
     Ok(EventMemory {
         payload,
@@ -80,8 +80,19 @@ fn record_bytes(alloc: Global, planned: &PlannedEvent) -> Result<Vec<u8>, NoMemo
     Ok(bytes)
 }
 
+/// Memory for a chunk, where an event writes chunks.
+fn chunk_buffer(alloc: Global, geometry: Geometry, event: &Event) -> Result<Vec<u8>, NoMemory>
+    ensures { IfOk result (λ buffer. length buffer.items ≡ buffer_bytes geometry event.now) }
+{
+    match event {
+        Event::Write { .. } => one_chunk(alloc, geometry),
+        Event::Turn { .. } => one_chunk(alloc, geometry),
+        _ => Ok(Vec::new(alloc)),
+    }
+}
+
 /// Memory for a chunk.
-fn chunk_buffer(alloc: Global, geometry: Geometry) -> Result<Vec<u8>, NoMemory>
+fn one_chunk(alloc: Global, geometry: Geometry) -> Result<Vec<u8>, NoMemory>
     ensures { IfOk result (λ buffer. length buffer.items ≡ chunk_bytes geometry) }
 {
     vec![in alloc; 0; geometry.chunk_blocks as usize * BLOCK_BYTES].map_err(|_| NoMemory)

@@ -21,7 +21,7 @@ ghost use Rattle.vv_array.specs.ChunkBytes.{ChangedAt};
 ghost use Rattle.vv_array.specs.DiskCauses.{HasCauses};
 ghost use Rattle.vv_array.specs.Puts.{UnlessWrite, OnRead, LeftWhen, moves_chunks};
 ghost use Rattle.vv_array.specs.Payloads.{planned_bytes};
-ghost use Rattle.vv_array.specs.EventMemory.{IsEventMemory};
+ghost use Rattle.vv_array.specs.EventMemory.{IsEventMemory, buffer_bytes};
 
 use crate::copying::write_copies;
 use crate::payloads::{blocks_written, bytes_to_write, payload_of};
@@ -44,7 +44,7 @@ pub(crate) struct PlannedEvent {
 }
 
 /// The memory for an event that is put on the disk: its record's bytes, one block as often as there are blocks where that is
-/// written, and buffers for a chunk and for tables.
+/// written, and buffers for a chunk, where it writes some, and for tables.
 #[derive(Drop)]
 pub(crate) struct EventMemory {
     pub payload: Vec<u8>,
@@ -65,7 +65,7 @@ pub(crate) fn put_chunks<D: Disk>(
     requires disk { D.size disk.old ≡ disk_len core.now.array.durable.geometry }
     requires fits { IsTrue (record_fits core.now.array.durable (log_record (record { first_after_open = false; event = event.now }))) }
     requires bytes { IsTrue (has_its_bytes (change_of event.now) bytes.now) }
-    requires buffer { length buffer.old ≡ chunk_bytes core.now.array.durable.geometry }
+    requires buffer { length buffer.old ≡ buffer_bytes core.now.array.durable.geometry event.now }
 
     ensures new { OnOk result ((c c' : List ℕ) → D.content disk.old ≡ Some c → D.content disk.new ≡ Some c'
         → HasNew core.now.array.durable (change_of event.now) (places_of event.now)
@@ -148,7 +148,7 @@ fn put_ahead<D: Disk>(
     requires sizes { journal.old.geometry ≡ core.now.array.durable.geometry }
     requires fits { IsTrue (record_fits core.now.array.durable (log_record (record { first_after_open = false; event = event.now }))) }
     requires bytes { IsTrue (has_its_bytes (change_of event.now) bytes.now) }
-    requires buffer { length buffer.old ≡ chunk_bytes core.now.array.durable.geometry }
+    requires buffer { length buffer.old ≡ buffer_bytes core.now.array.durable.geometry event.now }
     requires switch { 4096 ≤ length switch.old }
 
     ensures room { OnOk result (journal.new.records < 256) }

@@ -15,6 +15,7 @@ use Rattle.vv_image.specs.Standing.{bytes_at_place}
 use Rattle.vv_array.specs.Chunks.{DiffersAt, ToldAt, HasNew}
 use Rattle.vv_array.specs.ChunkBytes.{ChangedAt}
 use Rattle.vv_array.specs.Puts.{OnRead, moves_chunks}
+use Rattle.vv_array.specs.EventMemory.{buffer_bytes}
 use Rattle.vv_array.proofs.MovingTurns.{fit_parts, write_known, some_write}
 use Rattle.vv_array.proofs.PlainEvents.{written_fits, written_change, written_places, written_bytes, touched_places, turned_fits, turned_right, turned_change, turned_places, turned_values}
 use Rattle.vv_array.proofs.PutParts.{on_read}
@@ -58,6 +59,14 @@ write_blocks-requires-clause-fresh g c =
     let w = c.in-Write in
     (fit_parts d (Write w.volume.0 w.first_block w.blocks) (map (λ (p : Place). p.0) c.items.result.now)
     (written_fits d c.args.event.now w.volume w.first_block w.blocks w.places c.items.result.now w.is c.items.ensures c.requires.fits)).fresh
+
+pub write_blocks-requires-clause-buffer : goal.write_blocks-requires-clause-buffer
+write_blocks-requires-clause-buffer g c =
+    c.requires.buffer ∙ ap (buffer_bytes c.args.core.now.array.durable.geometry) c.in-Write.is
+
+pub copy_some-requires-clause-buffer : goal.copy_some-requires-clause-buffer
+copy_some-requires-clause-buffer g c =
+    c.requires.buffer ∙ ap (buffer_bytes c.args.core.now.array.durable.geometry) c.in-Turn.is
 
 pub copy_some-requires-clause-fits : goal.copy_some-requires-clause-fits
 copy_some-requires-clause-fits g c =

@@ -1,10 +1,10 @@
-//! Each call once, over two volumes of which one has a chunk.
-ghost use Rattle.std.specs.Prelude.{◌≡◌, ◌+◌, ◌<◌, ◌≤◌, [], ◌∷◌, IsSome, IsTrue, IfOk, IfSome, IfNone, length};
+//! Each call, over two volumes of other lengths, of which one has a chunk.
+ghost use Rattle.std.specs.Prelude.{◌≡◌, ◌+◌, ◌<◌, ◌≤◌, [], ◌∷◌, IsSome, IsTrue, OnOk, IfOk, IfSome, IfNone, length};
 ghost use Rattle.std.specs.List.{Contains};
 ghost use Rattle.vv_vols.specs.Shelf.{volume_in, size_in};
 ghost use Rattle.vv_vols.specs.Places.{with_taken};
 ghost use Rattle.vv_vols.specs.Conditions.{is_new_stamp};
-ghost use Rattle.vv_vols.specs.Rows.{IsChangeRoom};
+ghost use Rattle.vv_vols.specs.Rows.{IsChangeRoom, empty_view};
 
 use crate::{allocated, unshared, unshared_count};
 use std::alloc::Global;
@@ -29,18 +29,29 @@ fn plain(alloc: Global) -> Head {
     }
 }
 
-/// A shelf with a volume of 60 chunks.
-fn with_volume(alloc: Global, geometry: Geometry) -> Result<Shelf, NoMemory>
+/// Makes volume 1 of 60 chunks and volume 2 of 4.
+fn make_both(alloc: Global, shelf: &mut Shelf) -> Result<(), NoMemory>
+    requires empty { shelf.old ≡ empty_view shelf.old.shelf.geometry }
+    ensures standing { OnOk result (IsSome (volume_in shelf.new.shelf 1)) }
+    ensures size { OnOk result (size_in shelf.new.shelf 1 ≡ 60) }
+    ensures stamp { OnOk result (IsTrue (is_new_stamp shelf.new.shelf 1 3)) }
+{
+    let room = shelf.reserve_list(60)?;
+    shelf.make(VolumeId(1), plain(alloc), 60, room);
+    let room = shelf.reserve_list(4)?;
+    shelf.make(VolumeId(2), plain(alloc), 4, room);
+    Ok(())
+}
+
+/// A shelf with a volume of 60 chunks and one of 4.
+fn with_volumes(alloc: Global, geometry: Geometry) -> Result<Shelf, NoMemory>
     ensures standing { IfOk result (λ shelf. IsSome (volume_in shelf.shelf 1)) }
     ensures size { IfOk result (λ shelf. size_in shelf.shelf 1 ≡ 60) }
     ensures stamp { IfOk result (λ shelf. IsTrue (is_new_stamp shelf.shelf 1 3)) }
 {
     let mut shelf = Shelf::new(alloc, geometry)?;
-    match shelf.reserve_list(60) {
-        Ok(room) => {
-            shelf.make(VolumeId(1), plain(alloc), 60, room);
-            Ok(shelf)
-        }
+    match make_both(alloc, &mut shelf) {
+        Ok(()) => Ok(shelf),
         Err(NoMemory) => {
             shelf.close();
             Err(NoMemory)
@@ -127,9 +138,9 @@ fn second_and_third(shelf: &Shelf, volume: VolumeId) -> Option<[bool; 2]> {
 }
 
 #[test]
-fn one_chunk_is_allocated(rt: HostRuntime) -> Result<(), Fail> {
+fn one_chunk_is_allocated_and_unshared(rt: HostRuntime) -> Result<(), Fail> {
     let geometry = Geometry::new(8, 16, 64).expect(&rt, "these are sizes");
-    let mut shelf = with_volume(rt.alloc(), geometry).expect(&rt, "there is memory");
+    let mut shelf = with_volumes(rt.alloc(), geometry).expect(&rt, "there is memory");
     let mut room = shelf
         .reserve_change(VolumeId(1), 1, 1)
         .expect(&rt, "there is memory");
@@ -141,6 +152,9 @@ fn one_chunk_is_allocated(rt: HostRuntime) -> Result<(), Fail> {
         against(&shelf, VolumeId(1), VolumeId(1)),
         Some(([false; 4], 0))
     );
+    let second = Some(([false, true, false, false], 1));
+    assert_eq!(rt; against(&shelf, VolumeId(1), VolumeId(2)), second);
+    assert_eq!(rt; against(&shelf, VolumeId(2), VolumeId(1)), second);
     shelf.close();
     Ok(())
 }

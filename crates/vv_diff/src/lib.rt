@@ -4,6 +4,8 @@
 mod differing;
 mod pieces;
 mod putting;
+#[cfg(test)]
+mod tests;
 
 pub use differing::difference;
 pub use pieces::Pieces;

@@ -12,6 +12,8 @@ mod serving;
 mod status;
 mod summary;
 mod tally;
+#[cfg(test)]
+mod tests;
 mod top_call;
 mod walking;
 mod words;

@@ -1,0 +1,53 @@
+//! Containers: quotas, profiles, and a map that is full.
+use crate::tests::is_played;
+use std::test::Fail;
+
+/// A quota is asked for new chunks.
+const A_QUOTA: &str = r#"$ new d.img 16 2048 256
+> {"call":"createStorageContainer","capabilities":[],"quota":2}
+< {"container":"rfc4122.00000000-0001-8000-8000-000000000001","ok":true}
+> {"call":"createVirtualVolume","container":"rfc4122.00000000-0001-8000-8000-000000000001","sizeInMB":4,"vvolType":"Data"}
+< {"ok":true,"vvol":"rfc4122.00000000-0001-8000-8000-000000000002"}
+> {"call":"bindVirtualVolume","host":1,"vvol":"rfc4122.00000000-0001-8000-8000-000000000002"}
+< {"endpoint":1,"ok":true,"secondary":1}
+> {"call":"scsi","cdb":"2a000000000000000100","data":[["11",512]],"endpoint":1,"host":1,"secondary":1}
+< {"data":[],"ok":true,"status":"00"}
+> {"call":"scsi","cdb":"2a000000080000000100","data":[["11",512]],"endpoint":1,"host":1,"secondary":1}
+< {"data":[],"ok":true,"status":"00"}
+> {"call":"scsi","cdb":"2a000000100000000100","data":[["11",512]],"endpoint":1,"host":1,"secondary":1}
+< {"asked":1,"charged":2,"fault":"OverQuota","ok":false,"quota":2,"sense":"700007000000000a00000000270700000000","status":"02"}
+> {"call":"scsi","cdb":"2a000000000000000100","data":[["22",512]],"endpoint":1,"host":1,"secondary":1}
+< {"data":[],"ok":true,"status":"00"}
+> {"call":"snapshotVirtualVolume","vvol":"rfc4122.00000000-0001-8000-8000-000000000002"}
+< {"asked":2,"charged":2,"fault":"OverQuota","ok":false,"quota":2}
+"#;
+
+/// A profile is held against what a container offers.
+const PROFILES: &str = r#"$ new d.img 16 2048 256
+> {"call":"createStorageContainer","capabilities":[["min-iops",1000],["features",9223372036854775808]],"quota":9}
+< {"container":"rfc4122.00000000-0001-8000-8000-000000000001","ok":true}
+> {"call":"createVirtualVolume","container":"rfc4122.00000000-0001-8000-8000-000000000001","profile":[["min-iops",500],["colour",1]],"sizeInMB":1,"vvolType":"Data"}
+< {"at":1,"fault":"InvalidProfile","ok":false,"why":"Unknown"}
+> {"call":"createVirtualVolume","container":"rfc4122.00000000-0001-8000-8000-000000000001","profile":[["features",63]],"sizeInMB":1,"vvolType":"Data"}
+< {"ok":true,"vvol":"rfc4122.00000000-0001-8000-8000-000000000002"}
+> {"call":"createVirtualVolume","container":"rfc4122.00000000-0001-8000-8000-000000000001","profile":[["features",62]],"sizeInMB":1,"vvolType":"Data"}
+< {"at":0,"fault":"InvalidProfile","ok":false,"why":"TooLittle"}
+> {"call":"createVirtualVolume","container":"rfc4122.00000000-0001-8000-8000-000000000001","profile":[["max-latency-us",5]],"sizeInMB":1,"vvolType":"Data"}
+< {"at":0,"fault":"InvalidProfile","ok":false,"why":"NotOffered"}
+"#;
+
+/// A volume that finds no room in the map.
+const A_FULL_MAP: &str = r#"$ new d.img 16 2048 256
+> {"call":"createVirtualVolume","sizeInMB":256,"vvolType":"Data"}
+< {"ok":true,"vvol":"rfc4122.00000000-0001-8000-8000-000000000001"}
+> {"call":"createVirtualVolume","sizeInMB":1,"vvolType":"Data"}
+< {"asked":1,"entries":256,"fault":"MapFull","limit":256,"ok":false}
+"#;
+
+#[test]
+fn containers_go_as_told(rt: HostRuntime) -> Result<(), Fail> {
+    for scene in [A_QUOTA, PROFILES, A_FULL_MAP] {
+        assert!(rt; is_played(rt.alloc(), scene)?);
+    }
+    Ok(())
+}

@@ -4,6 +4,7 @@ mod containers;
 mod ended;
 mod generated;
 mod hosts;
+mod images;
 mod limits;
 mod lines;
 mod restarts;

@@ -26,3 +26,6 @@ mod writing;
 pub use array::Array;
 pub use executing::Served;
 pub use fault::ArrayFault;
+
+#[cfg(test)]
+mod tests;

@@ -1,0 +1,7 @@
+use Rattle.std.proofs.Common.{◌≡◌}
+use Rattle.vv_data.specs.Layout.{disk_len}
+use Rattle.vv_array.specs.Seen.{geometry_of}
+use Rattle.vv_array.proofs.tests.serving.answered.Given as goal
+
+abbrev pub invariant-loop-row : goal.invariant-loop-row
+invariant-loop-row g l = g.D.Disk.size l.disk ≡ disk_len (geometry_of l.array)

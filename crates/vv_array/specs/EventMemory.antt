@@ -16,7 +16,7 @@ use Rattle.vv_array.specs.declared.putting.PlannedEvent.{PlannedEvent}
 use Rattle.vv_array.specs.declared.putting.EventMemory.{EventMemory}
 use Rattle.vv_array.specs.Payloads.{repeated_bytes}
 
--- How many bytes the buffer for an event has: those of a chunk where it writes chunks, else none.
+-- How many bytes the buffer for an event has: those of a chunk where it is a write or a turn, else none.
 abbrev pub buffer_bytes : Geometry → Event → ℕ
 buffer_bytes geometry (event.Write volume first_block blocks places) = chunk_bytes geometry
 buffer_bytes geometry (event.Turn task copies) = chunk_bytes geometry

@@ -80,7 +80,7 @@ fn record_bytes(alloc: Global, planned: &PlannedEvent) -> Result<Vec<u8>, NoMemo
     Ok(bytes)
 }
 
-/// Memory for a chunk, where an event writes chunks.
+/// Memory for a chunk, where an event is a write or a turn: no other writes chunks.
 fn chunk_buffer(alloc: Global, geometry: Geometry, event: &Event) -> Result<Vec<u8>, NoMemory>
     ensures { IfOk result (λ buffer. length buffer.items ≡ buffer_bytes geometry event.now) }
 {
